@@ -1,0 +1,101 @@
+-- The highest and the lowest set bit of a word, and what the counts of leading and trailing zeros say of them. All at any width.
+use mathlib.Core.Path.{_≡_, refl, sym, ap, _∙_}
+use mathlib.Core.Logic.{⊎-elim}
+use Prim.Native.Nat.{ℕ, zero, suc, _+_, _-_, _*_, _/_, _%_, _^_, _≤_, _<_, min}
+use native.Mathlib.Nat.{div-one, mod-one, pow-suc, pow-succ', div-div-eq-div-mul, div-eq-of-lt, le-trans, le-antisymm, lt-of-not-le, lt-of-lt-of-le, lt-of-le-of-lt, not-le-of-lt, le-of-suc-le-suc, not-suc-le-zero, zero-min, min-zero, suc-min-suc, suc-add}
+use native.Mathlib.Omega.{arith}
+use lib.Arith.{mod-mul}
+use lib.Pow.{pow-pos, pow-mono}
+use lib.Count.{trailingZeros, under, leadingZeros, leading-top}
+use Rattle.words.specs.Bits.{bit, bit-zero, bit-half, bit-cut, bit-of-zero}
+
+-- n is not 0 and has at most d bits: t of them, counted from the lowest, are clear, and the next is set
+pub record Tail (d n t : ℕ) : Type 0 where
+  pub short : t < d
+  pub clear : n % 2 ^ t ≡ 0
+  pub set : n / 2 ^ t % 2 ≡ 1
+
+pub trailing : (d n : ℕ) → 0 < n → n < 2 ^ d → Tail d n (trailingZeros d n)
+unfolding trailingZeros
+trailing zero n h l = absurd (none n h l)
+  where
+    none : (n : ℕ) → 0 < n → n < 1 → ⊥
+    none n h l = omega arith
+trailing (suc d) n h l = go (n % 2) refl (λ (e : n % 2 ≡ 0). trailing d (n / 2) (omega arith) (omega (arith, pow-suc 2 d)))
+  where
+    go : (r : ℕ) → n % 2 ≡ r → (n % 2 ≡ 0 → Tail d (n / 2) (trailingZeros d (n / 2))) → Tail (suc d) n (under r (trailingZeros d (n / 2)))
+    go zero e ih =
+        let t = trailingZeros d (n / 2) in
+        let g = ih e in
+        record {
+          short = omega (arith, g .short);
+          clear = ap (λ (x : ℕ). n % x) (pow-suc 2 t) ∙ mod-mul n (pow-pos t) (pow-pos 1) ∙ omega (arith, g .clear);
+          set = ap (λ (x : ℕ). x % 2) (ap (λ (x : ℕ). n / x) (pow-succ' 2 t) ∙ sym (div-div-eq-div-mul n 2 (2 ^ t))) ∙ g .set;
+        }
+    go (suc r) e ih = record { short = omega arith; clear = mod-one n; set = ap (λ (x : ℕ). x % 2) (div-one n) ∙ omega arith }
+
+-- the place of s's lowest set bit is within the width
+pub tail-lt : (w d s k : ℕ) → s < 2 ^ w → Tail d s k → k < w
+tail-lt w d s k h g = lt-of-not-le (λ (l : w ≤ k). zero-odd (s / 2 ^ k) (g .set) (div-eq-of-lt (lt-of-lt-of-le h (pow-mono l))))
+  where
+    zero-odd : (n : ℕ) → n % 2 ≡ 1 → n ≡ 0 → ⊥
+    zero-odd n o z = omega arith
+
+-- no other place is the lowest
+pub tail-unique : {d n s t : ℕ} → Tail d n s → Tail d n t → s ≡ t
+unfolding bit
+tail-unique {d} {n} {s} {t} g h = le-antisymm (not-past s t (g .clear) (h .set)) (not-past t s (h .clear) (g .set))
+  where
+    zero-one : (b : ℕ) → b ≡ 0 → b ≡ 1 → ⊥
+    zero-one b e f = omega arith
+
+    not-past : (k j : ℕ) → n % 2 ^ k ≡ 0 → n / 2 ^ j % 2 ≡ 1 → k ≤ j
+    not-past k j clear set =
+        le-of-suc-le-suc (lt-of-not-le (λ (l : suc j ≤ k). zero-one (bit j n) (sym (bit-cut j n k l) ∙ ap (bit j) clear ∙ bit-of-zero j) set))
+
+-- ---- the count of trailing zeros, bit by bit
+
+-- the bits below the lowest set one are 0
+pub trailing-bit : (i k n : ℕ) → i < trailingZeros k n → bit i n ≡ 0
+unfolding trailingZeros
+trailing-bit i zero n h = absurd (not-suc-le-zero h)
+trailing-bit zero (suc k) n h = go (n % 2) refl h
+  where
+    go : (d : ℕ) → n % 2 ≡ d → zero < under d (trailingZeros k (n / 2)) → bit zero n ≡ 0
+    go zero e h = bit-zero n ∙ e
+    go (suc d) e h = absurd (not-suc-le-zero h)
+trailing-bit (suc i) (suc k) n h = go (λ l. trailing-bit i k (n / 2) l) (n % 2) h
+  where
+    go : (i < trailingZeros k (n / 2) → bit i (n / 2) ≡ 0) → (d : ℕ) → suc i < under d (trailingZeros k (n / 2)) → bit (suc i) n ≡ 0
+    go ih zero h = sym (bit-half i n) ∙ ih (le-of-suc-le-suc h)
+    go ih (suc d) h = absurd (not-suc-le-zero h)
+
+-- the zeros among fewer digits
+pub trailing-min : (k d n : ℕ) → trailingZeros k n ≡ min k (trailingZeros (k + d) n)
+unfolding trailingZeros
+trailing-min zero d n = sym (zero-min (trailingZeros (zero + d) n))
+trailing-min (suc k) d n =
+    go (n % 2) (trailing-min k d (n / 2)) ∙ ap (λ (m : ℕ). min (suc k) (trailingZeros m n)) (sym (suc-add k d))
+  where
+    go : (e : ℕ) → trailingZeros k (n / 2) ≡ min k (trailingZeros (k + d) (n / 2)) → under e (trailingZeros k (n / 2)) ≡ min (suc k) (under e (trailingZeros (k + d) (n / 2)))
+    go zero h = ap suc h ∙ sym (suc-min-suc k (trailingZeros (k + d) (n / 2)))
+    go (suc e) h = sym (min-zero (suc k))
+
+-- ---- j is the highest set bit of n, which has at most d bits
+pub record Top (d n j : ℕ) : Type 0 where
+  pub short : j < d
+  pub from : 2 ^ j ≤ n
+  pub below : n < 2 ^ suc j
+
+pub leading : (d n : ℕ) → 0 < n → n < 2 ^ suc d → Top (suc d) n (d - leadingZeros (suc d) n)
+leading d n h l =
+    let t = leading-top (suc d) n h l in
+    let e : d - leadingZeros (suc d) n ≡ t .0 = omega (arith, t .1) in
+    rw e record { short = omega (arith, t .1); from = t .2; below = t .3 }
+
+pub top-lt : {d : ℕ} (w t j : ℕ) → t < 2 ^ w → Top d t j → j < w
+top-lt w t j h top = lt-of-not-le (λ (k : w ≤ j). not-le-of-lt h (le-trans (pow-mono k) (top .from)))
+
+-- no other place is the highest
+pub top-unique : {d n j k : ℕ} → Top d n j → Top d n k → j ≡ k
+top-unique {d} {n} {j} {k} g h = le-antisymm (le-of-suc-le-suc (top-lt (suc k) n j (h .below) g)) (le-of-suc-le-suc (top-lt (suc j) n k (g .below) h))
