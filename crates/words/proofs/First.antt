@@ -1,14 +1,13 @@
 -- The least value from p on that agrees with a ternary word: where it is, by the highest bit at which p clashes. All at any width.
-use mathlib.Core.Path.{_≡_, refl, sym, ap, ap₂, _∙_, subst}
-use mathlib.Core.Logic.{_⊎_, inl, inr, ⊎-elim}
-use Prim.Native.Nat.{ℕ, zero, suc, _+_, _-_, _*_, _/_, _%_, _^_, _≤_, _<_, zero-le}
-use native.Mathlib.Nat.{le-refl, le-trans, le-of-eq, le-antisymm, lt-of-lt-of-le, lt-of-le-of-lt, lt-of-not-le, not-le-of-lt, mod-lt, div-eq-of-lt, div-div-eq-div-mul, pow-suc, add-suc, le-div-iff-mul-le, one-mul, mul-le-mul-right}
+use mathlib.Core.Path.{_≡_, sym, ap, ap₂, _∙_, subst}
+use Prim.Native.Nat.{ℕ, suc, _+_, _*_, _/_, _%_, _^_, _≤_, _<_, zero-le}
+use native.Mathlib.Nat.{le-refl, le-trans, le-of-eq, le-antisymm, lt-of-lt-of-le, lt-of-le-of-lt, lt-of-not-le, mod-lt, div-eq-of-lt, div-div-eq-div-mul, pow-suc, le-div-iff-mul-le, one-mul, mul-le-mul-right}
 use native.Mathlib.Omega.{arith}
-use native.Mathlib.Decide.{decLe}
 use lib.Pow.{pow-pos, pow-mono, split, high, low, shr-mono, shr-shr}
-use lib.Bits.{bitAnd, bitOr, or-shr}
+use lib.Bits.{bitOr, or-shr}
+use Rattle.words.specs.Bits.{bit, bit-set-lt}
 use Rattle.words.specs.Agree.{Within, Agrees, within-le, within-refl, within-trans, within-div, within-mod, within-join, bit-within-one, agrees-of-within, lo-within, within-hi}
-use Rattle.words.specs.Less.{less, less-le, within-of-less, less-of-within, less-div, less-mod, or-zero, less-odd}
+use Rattle.words.specs.Less.{less, within-of-less, less-of-within, less-div, less-mod, or-zero, less-odd}
 use Rattle.words.specs.Pick.{Least, NoneFrom}
 use Rattle.words.specs.Raised.{raised}
 use Rattle.words.specs.Zeros.{Top, Tail}
@@ -30,8 +29,8 @@ unfolding clash
 clash-none a b = ap₂ bitOr (less-of-within a) (less-of-within b)
 
 -- where no clash stands at k or above, the parts from k on agree
-above : (lo hi p k : ℕ) → clash lo hi p < 2 ^ k → Within (lo / 2 ^ k) (p / 2 ^ k) × Within (p / 2 ^ k) (hi / 2 ^ k)
-above lo hi p k h = no-clash (lo / 2 ^ k) (hi / 2 ^ k) (p / 2 ^ k) (sym (clash-div lo hi p k) ∙ div-eq-of-lt h)
+agree-above : (lo hi p k : ℕ) → clash lo hi p < 2 ^ k → Within (lo / 2 ^ k) (p / 2 ^ k) × Within (p / 2 ^ k) (hi / 2 ^ k)
+agree-above lo hi p k h = no-clash (lo / 2 ^ k) (hi / 2 ^ k) (p / 2 ^ k) (sym (clash-div lo hi p k) ∙ div-eq-of-lt h)
 
 -- where one does, no value that agrees has p's part from k on
 differs : (lo hi p k u : ℕ) → 2 ^ k ≤ clash lo hi p → Within lo u → Within u hi → u / 2 ^ k ≡ p / 2 ^ k → ⊥
@@ -41,7 +40,7 @@ differs lo hi p k u h a b e =
     let o : 1 ≤ clash lo hi p / 2 ^ k = le-div-iff-mul-le (pow-pos k) .1 (le-trans (le-of-eq (one-mul (2 ^ k))) h) in
     omega arith
 
--- two numbers from p on, equal above T and the first within the other below T
+-- two numbers, the first no less, equal above m, and the first no greater below m
 same-part : (x y m : ℕ) → y ≤ x → x / m ≡ y / m → x % m ≤ y % m → x / m * m + x % m ≡ x → y / m * m + y % m ≡ y → x ≡ y
 same-part x y m h e l f g = omega (arith, ap (λ (n : ℕ). n * m) e)
 
@@ -105,13 +104,13 @@ module _ (lo hi p j : ℕ) (ordered : Within lo hi) (at-j : 2 ^ j ≤ clash lo h
     high-over : Within (lo / 2 ^ (j + t)) (p / 2 ^ (j + t) + 1)
     high-over =
         within-join 1 (lo / 2 ^ (j + t)) (p / 2 ^ (j + t) + 1)
-        (rw up-half (rw (higher lo, higher p) at (above lo hi p (suc (j + t)) no-clash-above .0)))
+        (rw up-half (rw (higher lo, higher p) at (agree-above lo hi p (suc (j + t)) no-clash-above .0)))
         (rw up-odd (bit-within-one (lo / 2 ^ (j + t) % 2) (mod-lt (lo / 2 ^ (j + t)) (pow-pos 1))))
 
     high-under : Within (p / 2 ^ (j + t) + 1) (hi / 2 ^ (j + t))
     high-under =
         within-join 1 (p / 2 ^ (j + t) + 1) (hi / 2 ^ (j + t))
-        (rw up-half (rw (higher hi, higher p) at (above lo hi p (suc (j + t)) no-clash-above .1)))
+        (rw up-half (rw (higher hi, higher p) at (agree-above lo hi p (suc (j + t)) no-clash-above .1)))
         (rw (up-odd, hi-odd) (within-refl 1))
 
     raised-agrees : Agrees lo hi (raised lo p (j + t))
@@ -128,12 +127,8 @@ module _ (lo hi p j : ℕ) (ordered : Within lo hi) (at-j : 2 ^ j ≤ clash lo h
 
     -- that place is within any width that holds hi
     place-lt : (w : ℕ) → hi < 2 ^ w → j + t < w
-    place-lt w h =
-        lt-of-not-le (λ (k : w ≤ j + t).
-        zero-odd (hi / 2 ^ (j + t)) hi-odd (div-eq-of-lt (lt-of-lt-of-le h (pow-mono k))))
-      where
-        zero-odd : (n : ℕ) → n % 2 ≡ 1 → n ≡ 0 → ⊥
-        zero-odd n o z = omega arith
+    unfolding bit
+    place-lt w h = bit-set-lt (j + t) hi w h hi-odd
 
 -- ---- the same, of the numbers that the code names
 

@@ -1,2 +1,3 @@
+-- Laws that only the proofs of this crate cite.
 pub mod First
 pub mod Halves

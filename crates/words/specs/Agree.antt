@@ -1,19 +1,20 @@
 -- Ternary words: the values that agree with one, bit by bit, and Within, the same by bitAnd, as code tests it. All at any width.
 use mathlib.Core.Path.{_≡_, sym, ap, ap₂, _∙_}
 use mathlib.Core.Logic.{⊎-elim}
-use Prim.Native.Nat.{ℕ, zero, suc, _+_, _-_, _*_, _/_, _%_, _^_, _≤_, _<_, min, zero-le}
+use Prim.Native.Nat.{ℕ, _+_, _-_, _*_, _/_, _%_, _^_, _≤_, _<_, min, zero-le}
 use native.Mathlib.Nat.{le-trans, le-of-eq, mod-lt, min-le-right, min-eq-left, lt-of-le-of-lt, le-antisymm}
 use native.Mathlib.Omega.{arith}
 use lib.Pow.{pow-pos, split, ones-sub-lt}
 use lib.Bits.{bitAnd, and-le-r, and-shr, and-mod, and-self, and-block}
-use Rattle.words.specs.Bits.{bit, bit-lt, bit-of-zero, bit-high, bit-and, bit-ext, bit-shl, bit-shl-low, bit-over-low, bit-over-high, bit-not, ones-bit, lt-or-ge, split-at}
+use Rattle.words.specs.Bits.{bit, bit-lt, bit-of-zero, bit-high, bit-and, bit-ext, bit-shl, bit-shl-low, bit-not, ones-bit, lt-or-ge, split-at}
 
 -- v agrees with the ternary word lo, hi (document 01): "no bit is in lo and not in v, or in v and not in hi"
 pub record Agrees (lo hi v : ℕ) : Type 0 where
   pub over : (i : ℕ) → bit i lo ≤ bit i v
   pub under : (i : ℕ) → bit i v ≤ bit i hi
 
--- every bit of a is one of b: what code tests as a & b == a
+-- every bit of a is one of b: what code tests as a & b == a. `Within lo hi` says that lo, hi is a ternary word (document 01):
+-- "a pair lo, hi with no bit set in lo and clear in hi"
 pub record Within (a b : ℕ) : Type 0 where
   pub is : bitAnd a b ≡ a
 

@@ -2,7 +2,7 @@
 use mathlib.Core.Path.{_≡_, refl, sym, ap, _∙_}
 use mathlib.Core.Logic.{_⊎_, inl, inr, ⊎-elim}
 use Prim.Native.Nat.{ℕ, zero, suc, _+_, _-_, _*_, _/_, _%_, _^_, _≤_, _<_, min, max, zero-le}
-use native.Mathlib.Nat.{mod-lt, le-refl, zero-lt-suc, div-eq-of-lt, div-one, lt-of-lt-of-le, le-antisymm, mul-mod-left, mod-eq-of-lt, pow-suc, le-of-suc-le-suc, not-suc-le-zero, sub-zero}
+use native.Mathlib.Nat.{mod-lt, le-refl, zero-lt-suc, div-eq-of-lt, div-one, lt-of-lt-of-le, lt-of-not-le, le-antisymm, mul-mod-left, mod-eq-of-lt, pow-suc, le-of-suc-le-suc, not-suc-le-zero, sub-zero}
 use native.Mathlib.Decide.{decLt}
 use native.Mathlib.Numerals.{one-add}
 use native.Mathlib.Omega.{arith}
@@ -33,6 +33,10 @@ bit-half i v = ap (λ (x : ℕ). x % 2) (shr-shr v 1 i) ∙ ap (λ (k : ℕ). v 
 pub bit-high : (i v w : ℕ) → v < 2 ^ w → w ≤ i → bit i v ≡ 0
 unfolding bit
 bit-high i v w h l = ap (λ (x : ℕ). x % 2) (div-eq-of-lt (lt-of-lt-of-le h (pow-mono l)))
+
+-- so a set bit stands within the width
+pub bit-set-lt : (i v w : ℕ) → v < 2 ^ w → bit i v ≡ 1 → i < w
+bit-set-lt i v w h e = lt-of-not-le (λ (l : w ≤ i). let z = bit-high i v w h l in omega arith)
 
 pub bit-of-zero : (i : ℕ) → bit i 0 ≡ 0
 bit-of-zero i = bit-high i 0 0 (zero-lt-suc 0) zero-le

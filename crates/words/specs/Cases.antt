@@ -1,13 +1,11 @@
--- Worked cases of the paper, of the definitions: a set of numbers below n is given by a test, and a pick is checked by computing the test at every number.
-use mathlib.Core.Path.{_≡_, refl, sym, subst}
+-- For worked cases of the paper: a set of numbers below n is given by a test, and a pick from it is proved by computing the test at every number.
+use mathlib.Core.Path.{sym, subst}
 use mathlib.Core.Logic.{_⊎_, inl, inr, ⊎-elim}
 use mathlib.Core.Bool.{Bool, true, false, not, _&&_, _||_}
-use Prim.Native.Nat.{ℕ, zero, suc, _+_, _*_, _/_, _%_, _^_, _≤_, _<_, zero-le}
+use Prim.Native.Nat.{ℕ, zero, suc, _≤_, _<_}
 use native.Mathlib.Nat.{eq-or-lt-of-le, le-of-suc-le-suc, not-suc-le-zero, not-le-of-lt}
-use native.Mathlib.Omega.{arith}
-use lib.Dec.{T, leb, ltb, eqb, leb→le, ltb→lt, eqb→eq}
+use lib.Dec.{T, leb, ltb, leb→le, ltb→lt}
 use lib.Ieee.Fits.{and-l, and-r}
-use Rattle.words.specs.Mul.{solve}
 use Rattle.words.specs.Pick.{Pick, above, around, Least}
 
 -- the test holds at every number below n
@@ -69,20 +67,3 @@ pick-of n f p v t = go (or-case (leastFrom n f p v) (noneFrom n f p && leastFrom
     go : T (leastFrom n f p v) ⊎ T (noneFrom n f p && leastFrom n f 0 v) → Pick (Passes n f) p v
     go (inl a) = above (least-of n f p v a)
     go (inr a) = around (none (and-l (noneFrom n f p) (leastFrom n f 0 v) a)) (least-of n f 0 v (and-r (noneFrom n f p) (leastFrom n f 0 v) a))
-
--- 4 bits, x * 6 = 2, proposal 4: 11; proposal 12: 3
-six-at-4 : Pick (Passes 16 (λ x. eqb (x * 6 % 16) 2)) 4 11
-six-at-4 = pick-of 16 (λ x. eqb (x * 6 % 16) 2) 4 11 tt
-
-six-at-12 : Pick (Passes 16 (λ x. eqb (x * 6 % 16) 2)) 12 3
-six-at-12 = pick-of 16 (λ x. eqb (x * 6 % 16) 2) 12 3 tt
-
--- 64 bits, x * 2 = 0: 0 and 2 ^ 63, by the law of the solution set (k = 1, o = 1); proposal 1 gives 2 ^ 63
-double-is : (x : ℕ) → x < 2 ^ 64 → x * 2 % 2 ^ 64 ≡ 0 → 1 ≤ x → 2 ^ 63 ≤ x
-double-is x h e l = high x h (solve 63 1 1 1 (record { one = refl }) x 0 e .1) l
-  where
-    high : (y : ℕ) → y < 2 ^ 64 → y % 2 ^ 63 ≡ 0 → 1 ≤ y → 2 ^ 63 ≤ y
-    high y h e l = omega arith
-
-double-at-1 : Pick (λ x. (x < 2 ^ 64) × (x * 2 % 2 ^ 64 ≡ 0)) 1 (2 ^ 63)
-double-at-1 = above (record { member = (omega arith, refl); from = omega arith; least = λ u m l. double-is u (m .0) (m .1) l })

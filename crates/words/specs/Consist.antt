@@ -1,8 +1,7 @@
 -- The x for which some s has x * s ≡ t to w bits, as a consistent value of a product asks: those with a set bit no higher than t's lowest. At any width.
-use mathlib.Core.Path.{_≡_, refl, sym, ap, ap₂, _∙_, subst}
-use mathlib.Core.Logic.{_⊎_, inl, inr}
-use Prim.Native.Nat.{ℕ, zero, suc, _+_, _-_, _*_, _/_, _%_, _^_, _≤_, _<_, zero-le}
-use native.Mathlib.Nat.{le-refl, le-trans, le-of-lt, le-of-eq, lt-of-not-le, lt-of-lt-of-le, lt-of-le-of-lt, not-le-of-lt, mod-lt, mod-mod, mod-eq-of-lt, div-eq-of-lt, zero-mod, mul-zero, mul-one, mul-comm, mul-assoc, add-mod-right, pow-suc, mul-le-mul-right, pos-of-ne-zero, le-add-right, le-of-suc-le-suc, mul-div-cancel, zero-mul}
+use mathlib.Core.Path.{_≡_, refl, sym, ap, _∙_, subst}
+use Prim.Native.Nat.{ℕ, zero, suc, _+_, _-_, _*_, _/_, _%_, _^_, _≤_, _<_}
+use native.Mathlib.Nat.{le-refl, le-trans, le-of-lt, lt-of-not-le, lt-of-lt-of-le, mod-lt, mod-eq-of-lt, zero-mod, mul-zero, mul-one, add-mod-right, pow-suc, pos-of-ne-zero, le-add-right, le-of-suc-le-suc, mul-div-cancel, zero-mul}
 use native.Mathlib.Omega.{arith}
 use lib.Pow.{pow-pos, pow-mono, split}
 use Rattle.words.specs.Modular.{Inverse, inverse-one, inverse-fewer, newton, mul-mod-l, mul-mod-r, same-mul, cut-cut}
@@ -43,6 +42,8 @@ pub inverse-exists : (w o : ℕ) → o % 2 ≡ 1 → (v : ℕ) × Inverse w o v
 inverse-exists w o odd = let r = inverse-to w o odd in (r .0, inverse-fewer (le-of-lt (grow w)) (r .1))
 
 -- ---- the consistent set of a multiplication, without the operand's pair
+
+-- x gives t "with some values of the other positions, any at all" (document 01)
 pub record MulReaches (w t x : ℕ) : Type 0 where
   pub by : ℕ
   pub fits : by < 2 ^ w
@@ -57,10 +58,10 @@ module _ (w d t m : ℕ) (ht : t < 2 ^ w) (tail : Tail d t m) where
 
   -- the bit m of t is set, so t is no multiple of 2 ^ (m + 1)
   not-multiple : t % 2 ^ suc m ≡ 0 → ⊥
-  not-multiple e = odd (t / 2 ^ suc m) (t / 2 ^ m) (2 ^ m) (t % 2 ^ m) (split-eq) (tail .set)
+  not-multiple e = odd (t / 2 ^ suc m) (t / 2 ^ m) split-eq (tail .set)
     where
-      odd : (a b p r : ℕ) → b ≡ a * 2 → b % 2 ≡ 1 → ⊥
-      odd a b p r f g = omega arith
+      odd : (a b : ℕ) → b ≡ a * 2 → b % 2 ≡ 1 → ⊥
+      odd a b f g = omega arith
 
       split-eq : t / 2 ^ m ≡ t / 2 ^ suc m * 2
       split-eq =

@@ -1,11 +1,11 @@
 -- The bits of one word that are not in another, a & !b, as a number: a - (a & b). All at any width.
-use mathlib.Core.Path.{_≡_, refl, sym, ap, ap₂, _∙_, subst}
-use Prim.Native.Nat.{ℕ, zero, suc, _+_, _-_, _*_, _/_, _%_, _^_, _≤_, _<_, min, zero-le}
-use native.Mathlib.Nat.{le-refl, le-trans, le-of-eq, le-antisymm, le-of-sub-eq-zero, mod-lt, mod-eq-of-lt, min-eq-left, sub-le, pow-suc, div-add-mod', lt-of-le-of-lt, mul-le-mul-right}
+use mathlib.Core.Path.{_≡_, sym, ap, ap₂, _∙_}
+use Prim.Native.Nat.{ℕ, zero, suc, _+_, _-_, _*_, _/_, _%_, _^_, _≤_, _<_, min}
+use native.Mathlib.Nat.{le-antisymm, le-of-sub-eq-zero, mod-lt, sub-le, pow-suc, lt-of-le-of-lt}
 use native.Mathlib.Omega.{arith}
 use lib.Arith.{lt-one}
 use lib.Pow.{pow-pos, split, high, low}
-use lib.Bits.{bitAnd, bitOr, and-step, and-le-l, and-le-r, and-shr, and-mod, or-shr, or-mod, or-add-and}
+use lib.Bits.{bitAnd, bitOr, and-step, and-le-l, and-le-r, and-shr, and-mod, or-add-and}
 use Rattle.words.specs.Bits.{bit, bit-zero, bit-and}
 use Rattle.words.specs.Agree.{Within}
 

@@ -1,18 +1,16 @@
 -- Two ternary words at once are one ternary word, and the lesser of two answers is the answer in two sets together. All at any width.
-use mathlib.Core.Path.{_≡_, refl, sym, ap, ap₂, _∙_, subst}
+use mathlib.Core.Path.{_≡_, sym, subst}
 use mathlib.Core.Logic.{_⊎_, inl, inr}
 use mathlib.Core.Bool.{Bool, true, false, not}
-use Prim.Native.Nat.{ℕ, zero, suc, _+_, _-_, _*_, _/_, _%_, _^_, _≤_, _<_, min, max}
-use native.Mathlib.Nat.{le-refl, le-trans, le-of-eq, le-antisymm, mod-lt, max-le, le-min, min-le-left, min-le-right, le-max-left, le-max-right, min-eq-left, min-eq-right, le-of-lt}
-use native.Mathlib.Omega.{arith}
+use Prim.Native.Nat.{ℕ, _≤_, _<_, min}
+use native.Mathlib.Nat.{le-trans, le-of-eq, max-le, le-min, min-le-left, min-le-right, le-max-left, le-max-right, min-eq-left, min-eq-right, le-of-lt}
 use lib.Dec.{leb, leb→le, nleb→lt, T}
-use lib.Pow.{pow-pos}
-use lib.Bits.{bitAnd, bitOr, or-step, or-shr, or-mod}
+use lib.Bits.{bitAnd, bitOr}
 use Rattle.words.specs.declared.found.Found.{Found}
 use Rattle.words.specs.declared.found.Found.the-variants.{At, Nothing}
 use Rattle.words.specs.Bits.{bit, bit-and, bit-or}
-use Rattle.words.specs.Agree.{Within, Agrees, within-le, within-of-bits, within-trans, lo-within, within-hi, agrees-of-within}
-use Rattle.words.specs.Pick.{FirstFrom, NoneFrom, Empty}
+use Rattle.words.specs.Agree.{Agrees, within-trans, lo-within, within-hi}
+use Rattle.words.specs.Pick.{FirstFrom, Empty}
 
 -- the values that agree with both
 pub record Both (lo hi l h x : ℕ) : Type 0 where

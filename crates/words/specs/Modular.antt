@@ -1,12 +1,10 @@
 -- Numbers that are the same modulo m, as equations of remainders; cuts; inverses modulo 2 ^ w and Newton's step towards them.
 -- All at any modulus, or at any width.
-use mathlib.Core.Path.{_≡_, refl, sym, ap, ap₂, _∙_, subst}
-use Prim.Native.Nat.{ℕ, zero, suc, _+_, _-_, _*_, _/_, _%_, _^_, _≤_, _<_, zero-le}
-use Prim.Native.Nat.{_∣_}
-use native.Mathlib.Nat.{mod-lt, mod-eq-of-lt, mod-mod, mod-add-mod, add-mod-mod, add-mod, mod-mod-of-dvd, dvd-mul-left, add-mul-mod-self-right, add-mul-mod-self-left, mul-add-mod-self-right, div-add-mod', sub-add-cancel, mul-comm, mul-assoc, mul-one, mul-pos, pow-suc, le-refl, le-trans, le-of-lt, le-of-eq, lt-of-lt-of-le, lt-of-le-of-lt, mul-le-mul-left, mul-lt-mul-of-pos-right}
-use lib.Bits.{bitAnd, and-mask}
+use mathlib.Core.Path.{_≡_, sym, ap, _∙_}
+use Prim.Native.Nat.{ℕ, _+_, _-_, _*_, _/_, _%_, _^_, _≤_, _<_}
+use native.Mathlib.Nat.{mod-lt, mod-eq-of-lt, mod-add-mod, add-mul-mod-self-right, div-add-mod', mul-comm, mul-assoc, mul-one, mul-pos, le-refl, lt-of-lt-of-le}
 use native.Mathlib.Omega.{arith}
-use lib.Pow.{pow-pos, pow-add, pow-mono, mod-mod-pow, split}
+use lib.Pow.{pow-add, pow-mono, mod-mod-pow}
 
 -- a product's factors may be cut
 pub mul-mod-l : (a b m : ℕ) → (a % m) * b % m ≡ a * b % m
@@ -59,7 +57,7 @@ same-fewer {k} {w} a b h e = sym (cut-cut a w k h) ∙ ap (λ (n : ℕ). n % 2 ^
 pub record Inverse (w a x : ℕ) : Type 0 where
   pub one : a * x % 2 ^ w ≡ 1 % 2 ^ w
 
--- and a word of w bits: there is only one
+-- x is the inverse of a among the words of w bits: there is only one
 pub record WordInverse (w a x : ℕ) : Type 0 where
   pub inverse : Inverse w a x
   pub fits : x < 2 ^ w
@@ -75,7 +73,7 @@ inverse-unique {w} {a} {x} {y} i j =
     ring : (a x y : ℕ) → x * (a * y) ≡ y * (a * x)
     ring a x y = omega arith
 
--- it is one to fewer bits
+-- an inverse to more bits is one to fewer
 pub inverse-fewer : {k w a x : ℕ} → k ≤ w → Inverse w a x → Inverse k a x
 inverse-fewer {k} {w} {a} {x} h i = record { one = same-fewer (a * x) 1 h (i .one) }
 

@@ -1,10 +1,10 @@
 -- The x with x * s ≡ t to w bits, for an s that is o * 2 ^ k with an inverse of o to the other w - k bits. At any width; s = 0 is k = w, o = 0.
 use mathlib.Core.Path.{_≡_, refl, sym, ap, ap₂, _∙_, subst}
-use Prim.Native.Nat.{ℕ, zero, suc, _+_, _-_, _*_, _/_, _%_, _^_, _≤_, _<_}
-use native.Mathlib.Nat.{mod-lt, mod-mod, mod-eq-of-lt, mul-mod-left, mul-div-cancel, mul-one, mul-assoc, mul-comm, add-zero, mul-zero, zero-mod, lt-of-not-le, le-of-lt, lt-of-lt-of-le, div-eq-of-lt}
+use Prim.Native.Nat.{ℕ, _+_, _-_, _*_, _/_, _%_, _^_, _≤_, _<_}
+use native.Mathlib.Nat.{mod-eq-of-lt, mul-mod-left, mul-div-cancel, mul-one, mul-assoc, mul-comm, add-zero, mul-zero, zero-mod, le-of-lt}
 use native.Mathlib.Omega.{arith}
 use lib.Arith.{mod-mul}
-use lib.Pow.{pow-pos, pow-add, pow-mono, split, shr-lt}
+use lib.Pow.{pow-pos, pow-add, split, shr-lt}
 use Rattle.words.specs.Agree.{Agrees}
 use Rattle.words.specs.Narrow.{LowIs}
 use Rattle.words.specs.Pick.{Empty}
@@ -46,6 +46,8 @@ module _ (n k o inv : ℕ) (i : Inverse n o inv) where
       clear = omega (arith, split t k)
 
 -- ---- the inverse set of a multiplication
+
+-- "values that agree with the operand's pair and give t with the other positions at their current values" (document 01)
 pub record MulInverse (w s t lo hi x : ℕ) : Type 0 where
   pub agrees : Agrees lo hi x
   pub gives : x * s % 2 ^ w ≡ t

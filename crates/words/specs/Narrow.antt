@@ -1,11 +1,10 @@
 -- Words with given low bits, and the ternary word narrowed to them. All at any width.
-use mathlib.Core.Path.{_≡_, refl, sym, ap, ap₂, _∙_, subst}
-use mathlib.Core.Logic.{_↔_}
-use Prim.Native.Nat.{ℕ, zero, suc, _+_, _-_, _*_, _/_, _%_, _^_, _≤_, _<_}
-use native.Mathlib.Nat.{le-antisymm, mod-lt, sub-add-cancel}
+use mathlib.Core.Path.{_≡_, sym, ap, _∙_, subst}
+use Prim.Native.Nat.{ℕ, _+_, _-_, _*_, _/_, _%_, _^_, _≤_, _<_}
+use native.Mathlib.Nat.{le-antisymm, sub-add-cancel}
 use native.Mathlib.Omega.{arith}
 use lib.Arith.{digits-lt}
-use lib.Pow.{pow-pos, pow-add, split, high, low, shr-lt}
+use lib.Pow.{pow-add, split, high, low, shr-lt}
 use Rattle.words.specs.Agree.{Within, Agrees, within-le, within-refl, within-div, within-mod, within-join, agrees-of-within, lo-within, within-hi}
 
 -- a's bits from n on, and c below

@@ -4,7 +4,7 @@ use Prim.Native.Nat.{ℕ, _+_, _-_, _*_, _/_, _%_, _^_, _≤_, _<_}
 use native.Mathlib.Nat.{mod-eq-of-lt, one-mul, mul-assoc, mul-mod-left, div-eq-of-lt, lt-of-lt-of-le}
 use native.Mathlib.Omega.{arith}
 use lib.Bits.{bitOr, or-shifted}
-use lib.Pow.{pow-lt, pow-pos, pow-add, pow-mono, ones-split, ones-lt, high, shl-exact}
+use lib.Pow.{pow-lt, pow-add, pow-mono, ones-split, ones-lt, high, shl-exact}
 
 pub one-shl : (k w : ℕ) → k < w → 1 * 2 ^ k % 2 ^ w ≡ 2 ^ k
 one-shl k w h = ap (λ (n : ℕ). n % 2 ^ w) (one-mul (2 ^ k)) ∙ mod-eq-of-lt (pow-lt h)

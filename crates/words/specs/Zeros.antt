@@ -1,13 +1,14 @@
 -- The highest and the lowest set bit of a word, and what the counts of leading and trailing zeros say of them. All at any width.
 use mathlib.Core.Path.{_≡_, refl, sym, ap, _∙_}
-use mathlib.Core.Logic.{⊎-elim}
-use Prim.Native.Nat.{ℕ, zero, suc, _+_, _-_, _*_, _/_, _%_, _^_, _≤_, _<_, min}
-use native.Mathlib.Nat.{div-one, mod-one, pow-suc, pow-succ', div-div-eq-div-mul, div-eq-of-lt, le-trans, le-antisymm, lt-of-not-le, lt-of-lt-of-le, lt-of-le-of-lt, not-le-of-lt, le-of-suc-le-suc, not-suc-le-zero, zero-min, min-zero, suc-min-suc, suc-add}
+use Prim.Native.Nat.{ℕ, zero, suc, _+_, _-_, _/_, _%_, _^_, _≤_, _<_, min}
+use native.Mathlib.Nat.{div-one, mod-one, pow-suc, pow-succ', div-div-eq-div-mul, le-trans, le-antisymm, lt-of-not-le, not-le-of-lt, le-of-suc-le-suc, not-suc-le-zero, zero-min, min-zero, suc-min-suc, suc-add}
 use native.Mathlib.Omega.{arith}
 use lib.Arith.{mod-mul}
 use lib.Pow.{pow-pos, pow-mono}
 use lib.Count.{trailingZeros, under, leadingZeros, leading-top}
-use Rattle.words.specs.Bits.{bit, bit-zero, bit-half, bit-cut, bit-of-zero}
+use Rattle.words.specs.Bits.{bit, bit-zero, bit-half, bit-set-lt, bit-cut, bit-of-zero}
+
+-- ---- the lowest set bit
 
 -- n is not 0 and has at most d bits: t of them, counted from the lowest, are clear, and the next is set
 pub record Tail (d n t : ℕ) : Type 0 where
@@ -34,24 +35,19 @@ trailing (suc d) n h l = go (n % 2) refl (λ (e : n % 2 ≡ 0). trailing d (n / 
         }
     go (suc r) e ih = record { short = omega arith; clear = mod-one n; set = ap (λ (x : ℕ). x % 2) (div-one n) ∙ omega arith }
 
--- the place of s's lowest set bit is within the width
+-- its place is within any width that holds the word
 pub tail-lt : (w d s k : ℕ) → s < 2 ^ w → Tail d s k → k < w
-tail-lt w d s k h g = lt-of-not-le (λ (l : w ≤ k). zero-odd (s / 2 ^ k) (g .set) (div-eq-of-lt (lt-of-lt-of-le h (pow-mono l))))
-  where
-    zero-odd : (n : ℕ) → n % 2 ≡ 1 → n ≡ 0 → ⊥
-    zero-odd n o z = omega arith
+unfolding bit
+tail-lt w d s k h g = bit-set-lt k s w h (g .set)
 
 -- no other place is the lowest
 pub tail-unique : {d n s t : ℕ} → Tail d n s → Tail d n t → s ≡ t
 unfolding bit
 tail-unique {d} {n} {s} {t} g h = le-antisymm (not-past s t (g .clear) (h .set)) (not-past t s (h .clear) (g .set))
   where
-    zero-one : (b : ℕ) → b ≡ 0 → b ≡ 1 → ⊥
-    zero-one b e f = omega arith
-
     not-past : (k j : ℕ) → n % 2 ^ k ≡ 0 → n / 2 ^ j % 2 ≡ 1 → k ≤ j
     not-past k j clear set =
-        le-of-suc-le-suc (lt-of-not-le (λ (l : suc j ≤ k). zero-one (bit j n) (sym (bit-cut j n k l) ∙ ap (bit j) clear ∙ bit-of-zero j) set))
+        le-of-suc-le-suc (lt-of-not-le (λ (l : suc j ≤ k). let z : bit j n ≡ 0 = sym (bit-cut j n k l) ∙ ap (bit j) clear ∙ bit-of-zero j in omega arith))
 
 -- ---- the count of trailing zeros, bit by bit
 
@@ -81,7 +77,9 @@ trailing-min (suc k) d n =
     go zero h = ap suc h ∙ sym (suc-min-suc k (trailingZeros (k + d) (n / 2)))
     go (suc e) h = sym (min-zero (suc k))
 
--- ---- j is the highest set bit of n, which has at most d bits
+-- ---- the highest set bit
+
+-- j is the highest set bit of n, which has at most d bits
 pub record Top (d n j : ℕ) : Type 0 where
   pub short : j < d
   pub from : 2 ^ j ≤ n
@@ -93,6 +91,7 @@ leading d n h l =
     let e : d - leadingZeros (suc d) n ≡ t .0 = omega (arith, t .1) in
     rw e record { short = omega (arith, t .1); from = t .2; below = t .3 }
 
+-- its place is within any width that holds the word
 pub top-lt : {d : ℕ} (w t j : ℕ) → t < 2 ^ w → Top d t j → j < w
 top-lt w t j h top = lt-of-not-le (λ (k : w ≤ j). not-le-of-lt h (le-trans (pow-mono k) (top .from)))
 

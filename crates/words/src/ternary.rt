@@ -1,5 +1,8 @@
 // Ternary words lo, hi: whether a value agrees with one, and the least value from a proposal on that does.
-use crate::bits::{and_not, low_bit, low_bits, top_bit};
+use crate::bits::and_not;
+use crate::bits::low_bit;
+use crate::bits::low_bits;
+use crate::bits::top_bit;
 use crate::found::Found;
 ghost use mathlib.Core.Path.{_≡_};
 ghost use Prim.Native.Nat.{_^_, _<_};

@@ -1,3 +1,4 @@
+-- All 64 bits are the word itself; fewer are low_bits.
 use mathlib.Core.Path.{sym}
 use native.Mathlib.Nat.{mod-eq-of-lt}
 use borrow.Author.Needs.{needs}

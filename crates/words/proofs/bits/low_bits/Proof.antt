@@ -1,7 +1,7 @@
+-- The mask is 2 ^ n - 1, since 1 shifted by n < 64 stays within the word, and masking by it is the remainder.
 use Rattle.words.specs.Shift.{one-shl}
 use lib.Bits.{and-mask}
 use lib.Pow.{pow-pos}
-use native.Mathlib.Omega.{arith}
 use borrow.Author.Needs.{needs}
 use Rattle.words.proofs.bits.low_bits.Statement.{statement}
 use Rattle.words.proofs.bits.low_bits.Tie as tie

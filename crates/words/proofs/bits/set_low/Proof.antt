@@ -1,4 +1,4 @@
-use mathlib.Core.Path.{sym}
+-- Taking the low bits off and adding others is `over`; what results is a word again.
 use native.Mathlib.Nat.{mod-le}
 use Rattle.words.specs.Narrow.{over-by-sub, over-lt}
 use borrow.Author.Needs.{needs}

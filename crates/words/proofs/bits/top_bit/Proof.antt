@@ -1,3 +1,4 @@
+-- 63 less the leading zeros is the place of the highest set bit.
 use Rattle.words.specs.Zeros.{leading}
 use lib.Count.{leading-top}
 use native.Mathlib.Omega.{arith}

@@ -1,4 +1,5 @@
-use mathlib.Core.Path.{_≡_, sym, ap, ap₂, _∙_}
+-- The cases of `lesser`, by which of the two found something.
+use mathlib.Core.Path.{sym, ap, ap₂, _∙_}
 use native.Mathlib.Nat.{min-eq-left, min-eq-right, le-of-lt}
 use Rattle.words.specs.declared.found.Found.the-variants.{At}
 use Rattle.words.specs.Meet.{lesser}

@@ -1,3 +1,4 @@
+-- The search starts at the greater of least and p; what it finds past most shows that nothing is between.
 use mathlib.Core.Path.{subst}
 use Rattle.words.specs.Pick.{FirstFrom, between-at, between-past, between-none}
 use borrow.Author.Needs.{needs}

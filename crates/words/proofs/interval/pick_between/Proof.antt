@@ -1,3 +1,4 @@
+-- Two searches make a pick: from p on, and, where that finds nothing, from 0 on.
 use mathlib.Core.Path.{subst}
 use Rattle.words.specs.Pick.{FirstFrom, Between, above, picked-around}
 use Rattle.words.specs.Agree.{Agrees}

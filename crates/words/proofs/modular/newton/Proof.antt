@@ -1,3 +1,4 @@
+-- The law of Newton's step, of the two products and the difference that the code takes.
 use Rattle.words.specs.Modular.{newton}
 use borrow.Author.Needs.{needs}
 use Rattle.words.proofs.modular.newton.Statement.{statement}

@@ -1,4 +1,5 @@
-use Rattle.words.specs.Modular.{Inverse, inverse-one}
+-- From 1 bit to 64 bits in six steps, each of which doubles the bits.
+use Rattle.words.specs.Modular.{inverse-one}
 use borrow.Author.Needs.{needs}
 use Rattle.words.proofs.modular.odd_inverse.Statement.{statement}
 use Rattle.words.proofs.modular.odd_inverse.Tie as tie

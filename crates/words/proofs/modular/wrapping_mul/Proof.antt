@@ -1,3 +1,4 @@
+-- The products of halves fit 64 bits; proofs/Halves puts them together.
 use Rattle.words.proofs.Halves.{halves-fit, product}
 use lib.Bits.{mask-lt}
 use lib.Pow.{shr-lt}

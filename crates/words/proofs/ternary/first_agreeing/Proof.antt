@@ -1,3 +1,4 @@
+-- The three exits are the three laws of proofs/First: p itself, nothing, the raised word.
 use Rattle.words.proofs.First.{here, nothing, risen, risen-place}
 use Rattle.words.specs.Agree.{agrees-lt}
 use borrow.Author.Needs.{needs}

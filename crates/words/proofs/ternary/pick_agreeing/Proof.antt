@@ -1,3 +1,4 @@
+-- Where nothing agrees from p on, lo is the least of all that agree.
 use mathlib.Core.Path.{subst}
 use Rattle.words.specs.Pick.{FirstFrom, above, around}
 use Rattle.words.proofs.First.{lo-least}

@@ -1,8 +1,9 @@
+-- The raised word fits, so neither the shift nor the sums lose anything.
 use Rattle.words.specs.Raised.{raised}
 use lib.Pow.{pow-pos}
 use native.Mathlib.Nat.{mod-eq-of-lt, le-mul-of-pos-right}
 use native.Mathlib.Omega.{arith}
-use Prim.Native.Nat.{ℕ, _+_, _*_, _/_, _%_, _^_, _<_}
+use Prim.Native.Nat.{_+_, _*_, _/_, _%_, _^_}
 use mathlib.Core.Path.{_≡_}
 use borrow.Author.Needs.{needs}
 use Rattle.words.proofs.ternary.raise.Statement.{statement}
