@@ -1,0 +1,3 @@
+-- Laws for the proofs of this crate's functions.
+pub mod Parts
+pub mod Pairs

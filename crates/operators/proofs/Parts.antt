@@ -1,0 +1,51 @@
+-- What the word operations come to, over the width w of the node and the width W of a machine word; what each arm of a match on the kind knows.
+use mathlib.Core.Path.{_≡_, refl, sym, ap, _∙_}
+use mathlib.Core.Bool.{Bool, true, false}
+use Prim.Native.Nat.{ℕ, zero, suc, _+_, _-_, _%_, _^_, _≤_, _<_}
+use native.Mathlib.Nat.{lt-of-lt-of-le, sub-zero}
+use native.Mathlib.Omega.{arith}
+use lib.Pow.{not-mod, pow-mono, pow-pos}
+use mir.Val.{boolByte}
+use Rattle.words.specs.Modular.{cut-cut}
+use Rattle.operators.specs.Meaning.{flag, choose}
+
+-- a word that was computed modulo 2^W, cut to fewer bits
+pub recut : (r n W w : ℕ) → r ≡ n % 2 ^ W → w ≤ W → r % 2 ^ w ≡ n % 2 ^ w
+recut r n W w e h = ap (λ (x : ℕ). x % 2 ^ w) e ∙ cut-cut n W w h
+
+-- the complement of a word, cut to fewer bits
+pub flipped : (a w W : ℕ) → w ≤ W → a < 2 ^ w → ((2 ^ W - 1) - a) % 2 ^ w ≡ (2 ^ w - 1) - a
+flipped a w W h l =
+    let e : (W - w) + w ≡ W = omega arith in
+    ap (λ (n : ℕ). ((2 ^ n - 1) - a) % 2 ^ w) (sym e) ∙ not-mod (W - w) w l
+
+pub ones-cut : (w W : ℕ) → w ≤ W → (2 ^ W - 1) % 2 ^ w ≡ 2 ^ w - 1
+ones-cut w W h = ap (λ (n : ℕ). n % 2 ^ w) (sym (sub-zero (2 ^ W - 1))) ∙ flipped 0 w W h (pow-pos w) ∙ sub-zero (2 ^ w - 1)
+
+pub flagged : (t : Bool) → boolByte t ≡ flag t
+flagged true = refl
+flagged false = refl
+
+pub chosen : (x y z : ℕ) → (x ≡ 0 → ⊥) → y ≡ choose x y z
+chosen zero y z h = absurd (h refl)
+chosen (suc x) y z h = refl
+
+-- what joining and taking a part ask, from the width rule
+pub join-asks : (w wa wb x y : ℕ) → w ≤ 64 → (wa + wb ≡ w) × (1 ≤ wa) × (x < 2 ^ wa) × (y < 2 ^ wb) → (wb < 64) × (y < 2 ^ wb) × (x < 2 ^ (64 - wb))
+join-asks w wa wb x y h f = (omega (arith, f .0, f .1), f .3, lt-of-lt-of-le (f .2) (pow-mono (omega (arith, f .0))))
+
+pub part-asks : (w wa low x : ℕ) → 1 ≤ w → (low + w ≤ wa) × (wa ≤ 64) × (x < 2 ^ wa) → low < 64
+part-asks w wa low x h f = omega (arith, f .0, f .1)
+
+-- n is none of the k numbers from m on, as the last arm of a match on them knows it
+abbrev pub NoneOf : ℕ → ℕ → ℕ → Type 0
+NoneOf m zero n = Unit {0}
+NoneOf m (suc k) n = NoneOf m k n × (n ≡ m + k → ⊥)
+
+past : (m k n : ℕ) → m ≤ n → NoneOf m k n → m + k ≤ n
+past m zero n h r = omega arith
+past m (suc k) n h r = let g : m + k ≤ n = past m k n h (r .0) in let d : n ≡ m + k → ⊥ = r .1 in omega arith
+
+-- of the kinds 2 to 13, 13 is left
+pub last-kind : (n : ℕ) → 2 ≤ n → n < 14 → NoneOf 2 11 n → n ≡ 13
+last-kind n h l r = let g : 2 + 11 ≤ n = past 2 11 n h r in omega arith

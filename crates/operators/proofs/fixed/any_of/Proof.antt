@@ -1,0 +1,14 @@
+use borrow.Author.Needs.{needs}
+use mathlib.Core.Path.{ap}
+use Rattle.operators.specs.Fixed.{pair}
+use Rattle.operators.proofs.fixed.any_of.Statement.{statement}
+use Rattle.operators.proofs.fixed.any_of.Tie as tie
+
+ones-requires : tie.Need-ones-requires
+ones-requires c κs = search needs
+
+returns : tie.Need-returns
+returns c = ap (pair 0) (c .ones .ensures)
+
+pub any-of-spec : {M : Type 1} → statement M
+any-of-spec = tie.close (tie.spec ones-requires returns)

@@ -1,0 +1,15 @@
+use borrow.Author.Needs.{needs}
+use mathlib.Core.Path.{_∙_}
+use native.Mathlib.Omega.{arith}
+use Rattle.operators.proofs.Parts.{ones-cut}
+use Rattle.operators.proofs.fixed.ones.Statement.{statement}
+use Rattle.operators.proofs.fixed.ones.Tie as tie
+
+cut-requires : tie.Need-cut-requires
+cut-requires c κs = search needs
+
+returns : tie.Need-returns
+returns c = c .cut .ensures ∙ ones-cut (c .before .args .w) 64 (omega arith)
+
+pub ones-spec : {M : Type 1} → statement M
+ones-spec = tie.close (tie.spec cut-requires returns)

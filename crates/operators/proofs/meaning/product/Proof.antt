@@ -1,0 +1,19 @@
+use borrow.Author.Needs.{needs}
+use mathlib.Core.Path.{_∙_}
+use Prim.Native.Nat.{_*_}
+use native.Mathlib.Omega.{arith}
+use Rattle.operators.proofs.Parts.{recut}
+use Rattle.operators.proofs.meaning.product.Statement.{statement}
+use Rattle.operators.proofs.meaning.product.Tie as tie
+
+wrapping-mul-requires : tie.Need-wrapping-mul-requires
+wrapping-mul-requires c κs = search needs
+
+cut-requires : tie.Need-cut-requires
+cut-requires c κs = search needs
+
+returns : tie.Need-returns
+returns c = c .cut .ensures ∙ recut _ (c .before .before .args .a * c .before .before .args .b) 64 _ (c .before .wrapping-mul .ensures) (omega arith)
+
+pub product-spec : {M : Type 1} → statement M
+product-spec = tie.close (tie.spec wrapping-mul-requires cut-requires returns)

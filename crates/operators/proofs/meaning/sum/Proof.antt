@@ -1,0 +1,19 @@
+use borrow.Author.Needs.{needs}
+use mathlib.Core.Path.{_∙_}
+use Prim.Native.Nat.{_+_}
+use native.Mathlib.Omega.{arith}
+use Rattle.operators.proofs.Parts.{recut}
+use Rattle.operators.proofs.meaning.sum.Statement.{statement}
+use Rattle.operators.proofs.meaning.sum.Tie as tie
+
+wrapping-add-u64-requires : tie.Need-wrapping-add-u64-requires
+wrapping-add-u64-requires c κs = search needs
+
+cut-requires : tie.Need-cut-requires
+cut-requires c κs = search needs
+
+returns : tie.Need-returns
+returns c = c .cut .ensures ∙ recut _ (c .before .before .args .a + c .before .before .args .b) 64 _ (c .before .wrapping-add-u64 .ensures) (omega arith)
+
+pub sum-spec : {M : Type 1} → statement M
+sum-spec = tie.close (tie.spec wrapping-add-u64-requires cut-requires returns)

@@ -1,0 +1,87 @@
+-- Document 01, "Fixed bits of inner nodes": the pair of a node, from its operands' pairs.
+use mathlib.Core.Bool.{Bool, true, false}
+use Prim.Native.Nat.{ℕ, zero, suc, _+_, _-_, _*_, _/_, _%_, _^_}
+use lib.Bits.{bitAnd, bitOr, bitXor}
+use lib.Count.{trailingZeros}
+use lib.Dec.{eqb, leb, ltb}
+use Rattle.operators.specs.declared.fixed.Pair.{Pair}
+use Rattle.operators.specs.Table.{Kind, variable, constant, inv, conj, xor, add, mul, shl, lshr, eq, below, ite, concat, extract}
+
+abbrev pub pair : ℕ → ℕ → Pair
+pair l h = record { lo = l; hi = h }
+
+abbrev pub either : Bool → Pair → Pair → Pair
+either true p q = p
+either false p q = q
+
+abbrev pub branch : ℕ → Pair → Pair → Pair
+branch zero p q = q
+branch (suc c) p q = p
+
+-- "A bit is fixed where lo and hi agree": the others, as a number
+abbrev pub freeOf : Pair → ℕ
+freeOf p = bitXor (p .lo) (p .hi)
+
+-- fully fixed
+abbrev pub fixed : Pair → Bool
+fixed p = eqb (p .lo) (p .hi)
+
+-- all w bits free
+abbrev pub anyOf : ℕ → Pair
+anyOf w = pair 0 (2 ^ w - 1)
+
+-- v, with the positions of f free
+abbrev pub known : ℕ → ℕ → Pair
+known v f = pair (bitXor v (bitAnd v f)) (bitOr v f)
+
+-- add, mul: "let k be the lowest position free in either operand (w if none)"
+abbrev pub lowest : ℕ → Pair → Pair → ℕ
+lowest w p q = trailingZeros w (bitOr (freeOf p) (freeOf q))
+
+-- "The low k bits are fixed, as computed; the others are free."
+abbrev pub upTo : ℕ → ℕ → ℕ → Pair
+upTo w k v = pair (v % 2 ^ k) (v % 2 ^ k + (2 ^ w - 2 ^ k))
+
+-- xor: a bit is forced exactly where both operands' bits are fixed
+abbrev pub apart : Pair → Pair → Pair
+apart p q = known (bitXor (p .lo) (q .lo)) (bitOr (freeOf p) (freeOf q))
+
+-- eq: "0 if some position is fixed both sides and differs" (the xor has a bit fixed at 1); "1 if both are fully fixed and
+-- equal" (the xor is fixed at 0); "else free"
+abbrev pub told : Pair → Pair
+told x = either (ltb 0 (x .lo)) (pair 0 0) (either (eqb (x .hi) 0) (pair 1 1) (pair 0 1))
+
+abbrev pub eqPair : Pair → Pair → Pair
+eqPair p q = told (apart p q)
+
+-- below: "1 if a's hi is below b's lo; 0 if a's lo is at least b's hi; else free"
+abbrev pub belowPair : Pair → Pair → Pair
+belowPair p q = either (ltb (p .hi) (q .lo)) (pair 1 1) (either (leb (q .hi) (p .lo)) (pair 0 0) (pair 0 1))
+
+-- shl, lshr: "with a fully fixed amount, the shifted pair (filled places fixed at 0); else all free"
+abbrev pub shlPair : ℕ → Pair → Pair → Pair
+shlPair w p q = either (fixed q) (pair (p .lo * 2 ^ q .lo % 2 ^ w) (p .hi * 2 ^ q .lo % 2 ^ w)) (anyOf w)
+
+abbrev pub lshrPair : ℕ → Pair → Pair → Pair
+lshrPair w p q = either (fixed q) (pair (p .lo / 2 ^ q .lo) (p .hi / 2 ^ q .lo)) (anyOf w)
+
+-- if: "the chosen branch if the condition is fixed; else the bits fixed alike in both branches"
+abbrev pub itePair : Pair → Pair → Pair → Pair
+itePair p q r = either (fixed p) (branch (p .lo) q r) (pair (bitAnd (q .lo) (r .lo)) (bitOr (q .hi) (r .hi)))
+
+-- the pair of a node of kinds 2 to 13 whose operands have the pairs p, q, r
+abbrev pub pairOf : Kind → ℕ → ℕ → ℕ → ℕ → Pair → Pair → Pair → Pair
+pairOf variable w wa wb low p q r = pair 0 0
+pairOf constant w wa wb low p q r = pair 0 0
+pairOf inv w wa wb low p q r = pair ((2 ^ w - 1) - p .hi) ((2 ^ w - 1) - p .lo)
+pairOf conj w wa wb low p q r = pair (bitAnd (p .lo) (q .lo)) (bitAnd (p .hi) (q .hi))
+pairOf xor w wa wb low p q r = apart p q
+pairOf add w wa wb low p q r = upTo w (lowest w p q) (p .lo + q .lo)
+pairOf mul w wa wb low p q r = upTo w (lowest w p q) (p .lo * q .lo)
+pairOf shl w wa wb low p q r = shlPair w p q
+pairOf lshr w wa wb low p q r = lshrPair w p q
+pairOf eq w wa wb low p q r = eqPair p q
+pairOf below w wa wb low p q r = belowPair p q
+pairOf ite w wa wb low p q r = itePair p q r
+pairOf concat w wa wb low p q r = pair (p .lo * 2 ^ wb + q .lo) (p .hi * 2 ^ wb + q .hi)
+pairOf extract w wa wb low p q r = pair (p .lo / 2 ^ low % 2 ^ w) (p .hi / 2 ^ low % 2 ^ w)

@@ -1,0 +1,77 @@
+-- Document 01's table of kinds: the number of each, its operands, the fields that it uses, and its width rule.
+use mathlib.Core.Path.{_≡_}
+use mathlib.Core.Bool.{Bool, true, _&&_}
+use mathlib.Core.List.{List, [], _∷_}
+use Prim.Native.Nat.{ℕ, _+_, _≤_}
+use lib.Dec.{eqb, leb}
+use lib.ListN.{getD}
+use Rattle.operators.specs.declared.table.Rule.{Rule}
+use Rattle.operators.specs.declared.table.Rule.the-variants.{Free, One, Both, Equal, Choice, Sum, Part}
+use Rattle.operators.specs.declared.table.Shape.{Shape}
+
+-- the kinds, in the order of their numbers: inv, conj and ite are the table's not, and, if
+pub data Kind : Type 0 where
+  variable : Kind
+  constant : Kind
+  inv : Kind
+  conj : Kind
+  xor : Kind
+  add : Kind
+  mul : Kind
+  shl : Kind
+  lshr : Kind
+  eq : Kind
+  below : Kind
+  ite : Kind
+  concat : Kind
+  extract : Kind
+
+abbrev pub kinds : List Kind
+kinds = variable ∷ constant ∷ inv ∷ conj ∷ xor ∷ add ∷ mul ∷ shl ∷ lshr ∷ eq ∷ below ∷ ite ∷ concat ∷ extract ∷ []
+
+-- the kind with a number; 14 and above are refused by the problem check, and read as a variable here
+abbrev pub kindOf : ℕ → Kind
+kindOf n = getD kinds n variable
+
+abbrev pub row : ℕ → ℕ → Rule → Shape
+row n f r = record { operands = n; fields = f; rule = r }
+
+-- "operands" and "width rule" of the table, and how many of the fields a, b, c are used: extract's b is its lowest bit
+abbrev pub shape : Kind → Shape
+shape variable = row 0 0 Free
+shape constant = row 0 0 Free
+shape inv = row 1 1 One
+shape conj = row 2 2 Both
+shape xor = row 2 2 Both
+shape add = row 2 2 Both
+shape mul = row 2 2 Both
+shape shl = row 2 2 Both
+shape lshr = row 2 2 Both
+shape eq = row 2 2 Equal
+shape below = row 2 2 Equal
+shape ite = row 3 3 Choice
+shape concat = row 2 2 Sum
+shape extract = row 1 2 Part
+
+abbrev pub shapeOf : ℕ → Shape
+shapeOf n = shape (kindOf n)
+
+-- the width rule as a fact, of the node's width w, its operands' widths wa, wb, wc and its field b
+abbrev pub RuleMet : Rule → ℕ → ℕ → ℕ → ℕ → ℕ → Type 0
+RuleMet Free w wa wb wc b = Unit {0}
+RuleMet One w wa wb wc b = wa ≡ w
+RuleMet Both w wa wb wc b = (wa ≡ w) × (wb ≡ w)
+RuleMet Equal w wa wb wc b = (wa ≡ wb) × (w ≡ 1)
+RuleMet Choice w wa wb wc b = (wa ≡ 1) × (wb ≡ w) × (wc ≡ w)
+RuleMet Sum w wa wb wc b = wa + wb ≡ w
+RuleMet Part w wa wb wc b = b + w ≤ wa
+
+-- the same as a test
+unfoldable pub ruleHolds : Rule → ℕ → ℕ → ℕ → ℕ → ℕ → Bool
+ruleHolds Free w wa wb wc b = true
+ruleHolds One w wa wb wc b = eqb wa w
+ruleHolds Both w wa wb wc b = eqb wa w && eqb wb w
+ruleHolds Equal w wa wb wc b = eqb wa wb && eqb w 1
+ruleHolds Choice w wa wb wc b = eqb wa 1 && eqb wb w && eqb wc w
+ruleHolds Sum w wa wb wc b = eqb (wa + wb) w
+ruleHolds Part w wa wb wc b = leb (b + w) wa

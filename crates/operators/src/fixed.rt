@@ -1,0 +1,194 @@
+// The fixed bits of one node, from its operands' pairs.
+use crate::meaning::Op;
+use crate::meaning::flip;
+use crate::meaning::join;
+use crate::meaning::left;
+use crate::meaning::part;
+use crate::meaning::right;
+ghost use mathlib.Core.Path.{_≡_};
+ghost use Prim.Native.Nat.{_-_, _^_, _≤_};
+ghost use Rattle.operators.specs.Table.{kindOf};
+ghost use Rattle.operators.specs.Fixed.{anyOf, known, lowest, upTo, apart, eqPair, belowPair, shlPair, lshrPair, itePair, pairOf};
+ghost use Rattle.operators.specs.Ready.{PairsReady};
+
+// A ternary word: lo has no bit that hi lacks, and a bit is fixed where the two agree.
+pub struct Pair {
+    pub lo: u64,
+    pub hi: u64,
+}
+
+// w ones.
+fn ones(w: u32) -> u64
+    requires { ⌜ w ≤ 64 ⌝ }
+    ensures { λ r. ⌜ r ≡ 2 ^ w - 1 ⌝ }
+{
+    words::cut(u64::MAX, w)
+}
+
+// All w bits free.
+fn any_of(w: u32) -> Pair
+    requires { ⌜ w ≤ 64 ⌝ }
+    ensures { λ r. ⌜ r ≡ anyOf w ⌝ }
+{
+    Pair { lo: 0, hi: ones(w) }
+}
+
+// v, with the positions of f free.
+fn with_free(v: u64, f: u64) -> Pair
+    ensures { λ r. ⌜ r ≡ known v f ⌝ }
+{
+    Pair {
+        lo: v ^ (v & f),
+        hi: v | f,
+    }
+}
+
+// The lowest position free in either, w if there is none.
+fn lowest_free(p: Pair, q: Pair, w: u32) -> u32
+    requires { ⌜ w ≤ 64 ⌝ }
+    ensures { λ r. ⌜ r ≡ lowest w p q ⌝ }
+{
+    let k = u64::trailing_zeros((p.lo ^ p.hi) | (q.lo ^ q.hi));
+    if k < w { k } else { w }
+}
+
+// The k low bits of v, the others of w free.
+fn up_to(v: u64, k: u32, w: u32) -> Pair
+    requires { ⌜ (k ≤ w) × (w ≤ 64) ⌝ }
+    ensures { λ r. ⌜ r ≡ upTo w k v ⌝ }
+{
+    let low = words::cut(v, k);
+    let above = ones(w) - ones(k);
+    Pair {
+        lo: low,
+        hi: low + above,
+    }
+}
+
+// add and mul: the bits of v below the lowest free position, the others of w free.
+fn low_pair(v: u64, p: Pair, q: Pair, w: u32) -> Pair
+    requires { ⌜ w ≤ 64 ⌝ }
+    ensures { λ r. ⌜ r ≡ upTo w (lowest w p q) v ⌝ }
+{
+    up_to(v, lowest_free(p, q, w), w)
+}
+
+// xor: free where either is.
+fn xor_pair(p: Pair, q: Pair) -> Pair
+    ensures { λ r. ⌜ r ≡ apart p q ⌝ }
+{
+    with_free(p.lo ^ q.lo, (p.lo ^ p.hi) | (q.lo ^ q.hi))
+}
+
+// eq, from the xor: a bit fixed at 1 there differs, and all fixed at 0 is equal.
+fn eq_pair(p: Pair, q: Pair) -> Pair
+    ensures { λ r. ⌜ r ≡ eqPair p q ⌝ }
+{
+    let x = xor_pair(p, q);
+    if 0 < x.lo {
+        return Pair { lo: 0, hi: 0 };
+    }
+    if x.hi == 0 {
+        return Pair { lo: 1, hi: 1 };
+    }
+    Pair { lo: 0, hi: 1 }
+}
+
+// below.
+fn below_pair(p: Pair, q: Pair) -> Pair
+    ensures { λ r. ⌜ r ≡ belowPair p q ⌝ }
+{
+    if p.hi < q.lo {
+        return Pair { lo: 1, hi: 1 };
+    }
+    if q.hi <= p.lo {
+        return Pair { lo: 0, hi: 0 };
+    }
+    Pair { lo: 0, hi: 1 }
+}
+
+// shl.
+fn left_pair(p: Pair, q: Pair, w: u32) -> Pair
+    requires { ⌜ w ≤ 64 ⌝ }
+    ensures { λ r. ⌜ r ≡ shlPair w p q ⌝ }
+{
+    let s = q.lo;
+    if s == q.hi {
+        Pair {
+            lo: left(p.lo, s, w),
+            hi: left(p.hi, s, w),
+        }
+    } else {
+        any_of(w)
+    }
+}
+
+// lshr.
+fn right_pair(p: Pair, q: Pair, w: u32) -> Pair
+    requires { ⌜ w ≤ 64 ⌝ }
+    ensures { λ r. ⌜ r ≡ lshrPair w p q ⌝ }
+{
+    let s = q.lo;
+    if s == q.hi {
+        Pair {
+            lo: right(p.lo, s),
+            hi: right(p.hi, s),
+        }
+    } else {
+        any_of(w)
+    }
+}
+
+// if p then q else r: the bits fixed alike where p is not fixed.
+fn if_pair(p: Pair, q: Pair, r: Pair) -> Pair
+    ensures { λ v. ⌜ v ≡ itePair p q r ⌝ }
+{
+    let s = p.lo;
+    if s == p.hi {
+        if s == 0 {
+            return r;
+        }
+        return q;
+    }
+    Pair {
+        lo: q.lo & r.lo,
+        hi: q.hi | r.hi,
+    }
+}
+
+// The pair of a node of kinds 2 to 13, from its operands' pairs.
+pub fn pair_of(op: Op, p: Pair, q: Pair, r: Pair) -> Pair
+    requires { ⌜ PairsReady op p q r ⌝ }
+    ensures { λ v. ⌜ v ≡ pairOf (kindOf (op .kind)) (op .width) (op .wa) (op .wb) (op .low) p q r ⌝ }
+{
+    let kind = op.kind;
+    let w = op.width;
+    let k = op.wb;
+    let low = op.low;
+    match kind {
+        2 => Pair {
+            lo: flip(p.hi, w),
+            hi: flip(p.lo, w),
+        },
+        3 => Pair {
+            lo: p.lo & q.lo,
+            hi: p.hi & q.hi,
+        },
+        4 => xor_pair(p, q),
+        5 => low_pair(std::num::wrapping_add_u64(p.lo, q.lo), p, q, w),
+        6 => low_pair(words::wrapping_mul(p.lo, q.lo), p, q, w),
+        7 => left_pair(p, q, w),
+        8 => right_pair(p, q, w),
+        9 => eq_pair(p, q),
+        10 => below_pair(p, q),
+        11 => if_pair(p, q, r),
+        12 => Pair {
+            lo: join(p.lo, q.lo, k),
+            hi: join(p.hi, q.hi, k),
+        },
+        _ => Pair {
+            lo: part(p.lo, low, w),
+            hi: part(p.hi, low, w),
+        },
+    }
+}

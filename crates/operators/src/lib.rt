@@ -1,0 +1,14 @@
+// The operators of document 01: the table of kinds, what each operator means, and the fixed bits of one node.
+// Callers write operators::value, operators::Pair: the modules are for the reader.
+mod fixed;
+mod meaning;
+mod table;
+
+pub use fixed::Pair;
+pub use fixed::pair_of;
+pub use meaning::Op;
+pub use meaning::value;
+pub use table::Rule;
+pub use table::Shape;
+pub use table::rule_holds;
+pub use table::shape_of;
