@@ -1,0 +1,3 @@
+-- Laws that only this crate's proofs cite.
+pub mod Parts
+pub mod Shifted

@@ -1,0 +1,84 @@
+-- The six lines of a node, one after the other.
+use mathlib.Core.Path.{refl, ap, _∙_}
+use mathlib.Core.Bool.{not}
+use mathlib.Core.List.{[]}
+use Rattle.problem.specs.Refusals.{operandAbove, strayField, nodeLines, faultOf}
+use Rattle.operators.specs.declared.table.Shape.{Shape}
+use Rattle.operators.specs.Table.{ruleHolds}
+use Rattle.problem.specs.FirstLaws.{line-start, line-more}
+use borrow.Author.Needs.{needs}
+use Rattle.problem.proofs.refusals.fault_of.Statement.{statement}
+use Rattle.problem.proofs.refusals.fault_of.Tie as tie
+
+shape-of-requires : tie.Need-shape-of-requires
+shape-of-requires c κs = search needs
+
+line-requires : tie.Need-line-requires
+line-requires c κs = search needs
+
+line-requires-2 : tie.Need-line-requires-2
+line-requires-2 c κs = search needs
+
+operand-above-requires : tie.Need-operand-above-requires
+operand-above-requires c κs = search needs
+
+line-requires-3 : tie.Need-line-requires-3
+line-requires-3 c κs = search needs
+
+stray-field-requires : tie.Need-stray-field-requires
+stray-field-requires c κs = search needs
+
+line-requires-4 : tie.Need-line-requires-4
+line-requires-4 c κs = search needs
+
+rule-holds-requires : tie.Need-rule-holds-requires
+rule-holds-requires c κs = search needs
+
+line-requires-5 : tie.Need-line-requires-5
+line-requires-5 c κs = search needs
+
+pair-broken-requires : tie.Need-pair-broken-requires
+pair-broken-requires c κs = search needs
+
+line-requires-6 : tie.Need-line-requires-6
+line-requires-6 c κs = search needs
+
+returns : tie.Need-returns
+unfolding faultOf nodeLines
+returns c =
+    let p5 = c .before .before in
+    let p4 = p5 .before .before in
+    let p3 = p4 .before .before in
+    let p2 = p3 .before .before in
+    let p1 = p2 .before .before .before in
+    let p0 = p1 .before .before in
+    let args = p0 .before .args in
+    let n = args .n in
+    let i = args .id in
+    let e = p0 .shape-of .ensures in
+    let l7 = line-more i [] 7 _ _ _ _ (line-start i) refl (p1 .line .ensures) in
+    let l8 = line-more i _ 8 _ _ _ _ l7 refl (p2 .line2 .ensures) in
+    let t9 = p3 .before .operand-above .ensures ∙ ap (λ (x : Shape). operandAbove n (x .operands) i) e in
+    let l9 = line-more i _ 9 _ _ _ _ l8 t9 (p3 .line3 .ensures) in
+    let t10 = p4 .before .stray-field .ensures ∙ ap (λ (x : Shape). strayField n (x .fields)) e in
+    let l10 = line-more i _ 10 _ _ _ _ l9 t10 (p4 .line4 .ensures) in
+    let t11 = p5 .before .rule-holds .ensures ∙ ap (λ (x : Shape). ruleHolds (x .rule) (n .width) (args .wa) (args .wb) (args .wc) (n .b)) e in
+    let l11 = line-more i _ 11 _ _ _ _ l10 (ap not t11) (p5 .line5 .ensures) in
+    line-more i _ 12 _ _ _ _ l11 (c .before .pair-broken .ensures) (c .line6 .ensures)
+
+pub fault-of-spec : {M : Type 1} → statement M
+fault-of-spec =
+    tie.close
+    (tie.spec
+    shape-of-requires
+    line-requires
+    line-requires-2
+    operand-above-requires
+    line-requires-3
+    stray-field-requires
+    line-requires-4
+    rule-holds-requires
+    line-requires-5
+    pair-broken-requires
+    line-requires-6
+    returns)

@@ -1,0 +1,50 @@
+// Reading a problem, and the problem check: refusals 1 to 13 of document 01.
+// Callers write problem::check, problem::node_at: the modules are for the reader.
+ghost use mathlib.Core.Path.{_≡_};
+ghost use Rattle.problem.specs.Refusals.{checked};
+
+mod layout;
+mod refusals;
+
+pub use layout::Node;
+pub use layout::node_at;
+pub use layout::node_count;
+pub use layout::read_node;
+pub use layout::root_at;
+pub use layout::root_count;
+pub use layout::u16_at;
+pub use layout::u32_at;
+pub use layout::u64_at;
+pub use layout::width_at;
+use refusals::header_fault;
+pub use refusals::line;
+use refusals::nodes_fault;
+use refusals::roots_fault;
+
+// A refusal's number, and its place: a node's id, a root's position, or 0.
+pub struct Refusal {
+    pub number: u8,
+    pub place: u16,
+}
+
+// The answer of the problem check.
+pub enum Checked {
+    Accepted,
+    Refused(Refusal),
+}
+
+// The problem check: accepted, or the first refusal of 1 to 13 and its place. The header is tried first, then the nodes
+// in ascending id, then the roots in file order.
+pub fn check(problem: &[u8]) -> Checked
+    ensures { λ r. ⌜ r ≡ checked (now (problem .entry)) ⌝ }
+{
+    let header = header_fault(problem);
+    let Checked::Accepted = header else {
+        return header;
+    };
+    let nodes = nodes_fault(problem, node_count(problem));
+    let Checked::Accepted = nodes else {
+        return nodes;
+    };
+    roots_fault(problem, root_count(problem))
+}
