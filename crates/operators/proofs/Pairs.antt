@@ -1,17 +1,15 @@
 -- The pairs that the code makes are those of the definitions, from what it was told of their parts.
-use mathlib.Core.Path.{_≡_, refl, sym, ap, ap₂, _∙_}
+use mathlib.Core.Path.{_≡_, refl, ap, ap₂, _∙_}
 use Prim.Native.Nat.{ℕ, zero, suc, _+_, _-_, _%_, _^_, _≤_, _<_, min}
-use native.Mathlib.Nat.{le-trans, lt-of-le-of-lt, mod-lt}
+use native.Mathlib.Nat.{le-trans, mod-lt}
 use native.Mathlib.Omega.{arith}
 use lib.Count.{trailingZeros}
 use lib.Pow.{pow-pos, pow-mono}
-use borrow.Author.Tests.{lt-ltb, le-ltb, eq-eqb, ne-eqb}
-use Rattle.words.specs.Agree.{within-le}
 use Rattle.words.specs.Zeros.{trailing-min}
 use Rattle.operators.specs.declared.fixed.Pair.{Pair}
-use Rattle.operators.specs.Fixed.{pair, branch, told, upTo, lowest}
+use Rattle.operators.specs.Fixed.{pair, branch, upTo, lowest}
 use Rattle.operators.specs.Ready.{Used, Ordered}
-use Rattle.operators.specs.Sound.{lowest-le}
+use Rattle.operators.specs.Sound.{lowest-le, lo-lt}
 use Rattle.operators.proofs.Parts.{recut}
 
 -- the zeros among w digits, from those among W
@@ -37,16 +35,6 @@ low-is w p q r u v e f h =
     let k = lowest w p q in
     e ∙ ap (λ (x : ℕ). pair x (x + (2 ^ w - 2 ^ k))) (recut u v 64 k f (le-trans (lowest-le w p q) h))
 
--- eq, by its tests
-pub told-apart : (x : Pair) → 0 < x .lo → pair 0 0 ≡ told x
-told-apart x h = simp (lt-ltb 0 (x .lo) h)
-
-pub told-same : (x : Pair) → x .lo ≤ 0 → x .hi ≡ 0 → pair 1 1 ≡ told x
-told-same x h e = simp (le-ltb 0 (x .lo) h, eq-eqb (x .hi) 0 e)
-
-pub told-free : (x : Pair) → x .lo ≤ 0 → (x .hi ≡ 0 → ⊥) → pair 0 1 ≡ told x
-told-free x h e = simp (le-ltb 0 (x .lo) h, ne-eqb (x .hi) 0 e)
-
 -- if, by its test
 pub branch-zero : (c : ℕ) (q r : Pair) → c ≡ 0 → r ≡ branch c q r
 branch-zero c q r e = rw e
@@ -54,10 +42,6 @@ branch-zero c q r e = rw e
 pub branch-some : (c : ℕ) (q r : Pair) → (c ≡ 0 → ⊥) → q ≡ branch c q r
 branch-some zero q r h = absurd (h refl)
 branch-some (suc c) q r h = refl
-
--- lo is no greater than hi, so what bounds hi bounds lo
-pub lo-lt : {p : Pair} {m : ℕ} → Ordered p → p .hi < m → p .lo < m
-lo-lt o h = lt-of-le-of-lt (within-le o) h
 
 -- concat's width rule, at lo
 pub low-fits : {p q r : Pair} (w wa wb : ℕ) → Used 2 (Ordered p) (Ordered q) (Ordered r) → (wa + wb ≡ w) × (1 ≤ wa) × (p .hi < 2 ^ wa) × (q .hi < 2 ^ wb)

@@ -6,3 +6,5 @@ pub mod Ready
 pub mod TableLaws
 pub mod MeaningLaws
 pub mod Sound
+pub mod Forced
+pub mod Determined

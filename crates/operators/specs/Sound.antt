@@ -4,14 +4,14 @@ use mathlib.Core.Path.{_≡_, refl, sym, ap, ap₂, _∙_}
 use mathlib.Core.Bool.{Bool, true, false}
 use mathlib.Core.Logic.{⊎-elim}
 use Prim.Native.Nat.{ℕ, zero, suc, _+_, _-_, _*_, _/_, _%_, _^_, _≤_, _<_, min, max, zero-le}
-use native.Mathlib.Nat.{le-refl, le-trans, lt-of-le-of-lt, mod-lt, add-mod}
+use native.Mathlib.Nat.{le-refl, lt-of-le-of-lt, mod-lt, add-mod}
 use native.Mathlib.Omega.{arith}
 use lib.Bits.{bitAnd, bitOr, bitXor, and-lt, or-lt, xor-lt, xor-self}
 use lib.Count.{trailing-le}
 use lib.Dec.{eqb, leb, ltb}
 use lib.Pow.{pow-pos, pow-mono, high-ones, ones-lt, ones-sub-lt, shr-le}
 use borrow.Author.Tests.{ltb-true, leb-true, eqb-true, lt-ltb, le-ltb, ne-eqb, eq-eqb}
-use Rattle.words.specs.Agree.{Within, Agrees, agrees-of-within, lo-within, within-hi, within-le, within-refl, within-trans, within-antisym, within-zero, within-ones, within-div, within-mod, within-over, within-shl, within-and-both, within-not, agrees-lt}
+use Rattle.words.specs.Agree.{Within, agrees-of-within, lo-within, within-hi, within-le, within-refl, within-trans, within-antisym, within-zero, within-ones, within-div, within-mod, within-over, within-shl, within-and-both, within-not, agrees-lt}
 use Rattle.words.specs.Bits.{bit, bit-lt, bit-and, bit-or, bit-xor, bit-high, bit-cut, bit-cut-high, bit-over-low, bit-over-high, ones-bit, same-low, split-at, lt-or-ge, xor-none}
 use Rattle.words.specs.Modular.{cut-cut, mul-cuts}
 use Rattle.words.specs.Zeros.{trailing-bit}
@@ -50,14 +50,19 @@ tight p x j a e = same (bit j (p .lo)) (bit j x) (bit j (p .hi)) (a .over j) (a 
     same : (l v h : ℕ) → l ≤ v → v ≤ h → h < 2 → (l + h) % 2 ≡ 0 → l ≡ v
     same l v h a b c e = omega arith
 
-none-free : (p q : Pair) (j : ℕ) → bit j (bitOr (freeOf p) (freeOf q)) ≡ 0 → (bit j (freeOf p) ≡ 0) × (bit j (freeOf q) ≡ 0)
+-- a position that is free in neither
+pub none-free : (p q : Pair) (j : ℕ) → bit j (bitOr (freeOf p) (freeOf q)) ≡ 0 → (bit j (freeOf p) ≡ 0) × (bit j (freeOf q) ≡ 0)
 none-free p q j e =
     let f : max (bit j (freeOf p)) (bit j (freeOf q)) ≡ 0 = sym (bit-or j (freeOf p) (freeOf q)) ∙ e in
     (omega arith, omega arith)
 
+-- known's lo has a bit where v has it and f has not
+pub known-lo : (v f j : ℕ) → bit j (known v f .lo) ≡ (bit j v + min (bit j v) (bit j f)) % 2
+known-lo v f j = bit-xor j v (bitAnd v f) ∙ ap (λ (n : ℕ). (bit j v + n) % 2) (bit-and j v f)
+
 -- a value that has u's bits where f is clear
 agrees-known : (u f v : ℕ) → ((j : ℕ) → bit j f ≡ 0 → bit j u ≡ bit j v) → Agreeing (known u f) v
-agrees-known u f v h = record { over = λ j. rw (bit-xor j u (bitAnd u f), bit-and j u f) (low j); under = λ j. rw (bit-or j u f) (high j) }
+agrees-known u f v h = record { over = λ j. rw (known-lo u f j) (low j); under = λ j. rw (bit-or j u f) (high j) }
   where
     low : (j : ℕ) → (bit j u + min (bit j u) (bit j f)) % 2 ≤ bit j v
     low j =
@@ -229,8 +234,12 @@ bit-short s t u v w hu hv h =
     either-short s (pair u u) (either t (pair v v) (pair 0 1)) (2 ^ w) (lt-of-le-of-lt hu m)
     (either-short t (pair v v) (pair 0 1) (2 ^ w) (lt-of-le-of-lt hv m) m)
 
+-- lo is no greater than hi, so what bounds hi bounds lo
+pub lo-lt : {p : Pair} {m : ℕ} → Ordered p → p .hi < m → p .lo < m
+lo-lt o h = lt-of-le-of-lt (within-le o) h
+
 free-lt : (w : ℕ) (p : Pair) → Ordered p → p .hi < 2 ^ w → freeOf p < 2 ^ w
-free-lt w p o h = xor-lt w (p .lo) (p .hi) (lt-of-le-of-lt (within-le o) h) h
+free-lt w p o h = xor-lt w (p .lo) (p .hi) (lo-lt o h) h
 
 pair-short : (o : Kind) (w wa wb low : ℕ) (p q r : Pair) → 1 ≤ w → Fit (shape o .rule) w wa wb low (p .hi) (q .hi) (r .hi)
     → Used (shape o .operands) (Ordered p) (Ordered q) (Ordered r) → pairOf o w wa wb low p q r .hi < 2 ^ w
@@ -242,7 +251,7 @@ pair-short xor w wa wb low p q r h f u =
     let a = u .a (omega arith) in
     let b = u .b (omega arith) in
     or-lt w (bitXor (p .lo) (q .lo)) (bitOr (freeOf p) (freeOf q))
-    (xor-lt w (p .lo) (q .lo) (lt-of-le-of-lt (within-le a) (f .0)) (lt-of-le-of-lt (within-le b) (f .1)))
+    (xor-lt w (p .lo) (q .lo) (lo-lt a (f .0)) (lo-lt b (f .1)))
     (or-lt w (freeOf p) (freeOf q) (free-lt w p a (f .0)) (free-lt w q b (f .1)))
 pair-short add w wa wb low p q r h f u = upTo-short w (lowest w p q) (p .lo + q .lo) (lowest-le w p q)
 pair-short mul w wa wb low p q r h f u = upTo-short w (lowest w p q) (p .lo * q .lo) (lowest-le w p q)
@@ -258,12 +267,19 @@ pair-short ite w wa wb low p q r h f u =
 pair-short concat w wa wb low p q r h f u = joined-lt w wa wb (p .hi) (q .hi) (f .0) (f .2) (f .3)
 pair-short extract w wa wb low p q r h f u = mod-lt (p .hi / 2 ^ low) (pow-pos w)
 
--- each operand at its lo: a value that agrees, so that lo is within it and it within hi
-lowest-agrees : {p : Pair} → Ordered p → Agreeing p (p .lo)
-lowest-agrees {p} o = agrees-of-within (within-refl (p .lo)) o
+-- lo and hi are values that agree
+pub lo-agrees : {p : Pair} → Ordered p → Agreeing p (p .lo)
+lo-agrees {p} o = agrees-of-within (within-refl (p .lo)) o
 
+pub hi-agrees : {p : Pair} → Ordered p → Agreeing p (p .hi)
+hi-agrees {p} o = agrees-of-within o (within-refl (p .hi))
+
+pub used-to : {n : ℕ} {A B C A′ B′ C′ : Type 0} → (A → A′) → (B → B′) → (C → C′) → Used n A B C → Used n A′ B′ C′
+used-to f g h u = record { a = λ n. f (u .a n); b = λ n. g (u .b n); c = λ n. h (u .c n) }
+
+-- the value at the operands' los agrees, so lo is within it and it is within hi
 pub pair-whole : (o : Kind) (w wa wb low : ℕ) (p q r : Pair) → 1 ≤ w → Fit (shape o .rule) w wa wb low (p .hi) (q .hi) (r .hi)
     → Used (shape o .operands) (Ordered p) (Ordered q) (Ordered r) → Ternary w (pairOf o w wa wb low p q r)
 pair-whole o w wa wb low p q r h f u =
-    let s = sound o w wa wb low p q r (p .lo) (q .lo) (r .lo) f (record { a = λ n. lowest-agrees (u .a n); b = λ n. lowest-agrees (u .b n); c = λ n. lowest-agrees (u .c n) }) in
+    let s = sound o w wa wb low p q r (p .lo) (q .lo) (r .lo) f (used-to lo-agrees lo-agrees lo-agrees u) in
     record { ordered = within-trans (lo-within s) (within-hi s); short = pair-short o w wa wb low p q r h f u }

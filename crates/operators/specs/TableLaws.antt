@@ -1,16 +1,16 @@
 -- Laws of the table of kinds: its rows as a list, and the width rule as a test and as a fact.
-use mathlib.Core.Path.{_≡_, refl, sym, ap, _∙_}
+use mathlib.Core.Path.{_≡_, refl, sym, ap}
 use mathlib.Core.Bool.{Bool, true, false, _&&_, false≢true}
 use mathlib.Core.List.{List, [], _∷_}
-use Prim.Native.Nat.{ℕ, zero, suc, _+_, _≤_, _<_}
+use Prim.Native.Nat.{ℕ, zero, suc, _≤_, _<_}
 use native.Mathlib.Nat.{not-suc-le-zero, le-of-suc-le-suc}
-use lib.Dec.{eqb, leb}
+use lib.Dec.{eqb}
 use lib.ListN.{length, getD, List·getD-eq-default}
 use borrow.Author.Tests.{eqb-true, leb-true, eq-eqb, le-leb}
 use Rattle.operators.specs.declared.table.Rule.{Rule}
 use Rattle.operators.specs.declared.table.Rule.the-variants.{Free, One, Both, Equal, Choice, Sum, Part}
 use Rattle.operators.specs.declared.table.Shape.{Shape}
-use Rattle.operators.specs.Table.{Kind, variable, kinds, kindOf, shape, shapeOf, RuleMet, ruleHolds}
+use Rattle.operators.specs.Table.{Kind, variable, kinds, shape, shapeOf, RuleMet, ruleHolds}
 
 -- the rows of some kinds
 abbrev pub rows : List Kind → List Shape

@@ -94,7 +94,7 @@ fn eq_pair(p: Pair, q: Pair) -> Pair
     Pair { lo: 0, hi: 1 }
 }
 
-// below.
+// below: 1 if a's hi is below b's lo, 0 if a's lo is at least b's hi, else free.
 fn below_pair(p: Pair, q: Pair) -> Pair
     ensures { λ r. ⌜ r ≡ belowPair p q ⌝ }
 {
@@ -107,7 +107,7 @@ fn below_pair(p: Pair, q: Pair) -> Pair
     Pair { lo: 0, hi: 1 }
 }
 
-// shl.
+// shl: with a fixed amount the shifted pair, else all free.
 fn left_pair(p: Pair, q: Pair, w: u32) -> Pair
     requires { ⌜ w ≤ 64 ⌝ }
     ensures { λ r. ⌜ r ≡ shlPair w p q ⌝ }
@@ -123,7 +123,7 @@ fn left_pair(p: Pair, q: Pair, w: u32) -> Pair
     }
 }
 
-// lshr.
+// lshr: with a fixed amount the shifted pair, else all free.
 fn right_pair(p: Pair, q: Pair, w: u32) -> Pair
     requires { ⌜ w ≤ 64 ⌝ }
     ensures { λ r. ⌜ r ≡ lshrPair w p q ⌝ }
@@ -139,7 +139,7 @@ fn right_pair(p: Pair, q: Pair, w: u32) -> Pair
     }
 }
 
-// if p then q else r: the bits fixed alike where p is not fixed.
+// if p then q else r: the chosen branch if p is fixed, else the bits fixed alike in both.
 fn if_pair(p: Pair, q: Pair, r: Pair) -> Pair
     ensures { λ v. ⌜ v ≡ itePair p q r ⌝ }
 {

@@ -1,3 +1,4 @@
+-- Nothing is fixed: 0 and w ones.
 use borrow.Author.Needs.{needs}
 use mathlib.Core.Path.{ap}
 use Rattle.operators.specs.Fixed.{pair}

@@ -1,3 +1,4 @@
+-- Each answer is the one that the two tests give.
 use borrow.Author.Tests.{lt-ltb, le-ltb, le-leb, lt-leb}
 use Rattle.operators.proofs.fixed.below_pair.Statement.{statement}
 use Rattle.operators.proofs.fixed.below_pair.Tie as tie

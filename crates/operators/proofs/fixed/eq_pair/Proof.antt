@@ -1,7 +1,8 @@
+-- Each answer is the one that the two tests on the xor's pair give.
 use borrow.Author.Needs.{needs}
-use mathlib.Core.Path.{ap, _∙_}
+use mathlib.Core.Path.{sym, ap, _∙_}
 use Rattle.operators.specs.Fixed.{told}
-use Rattle.operators.proofs.Pairs.{told-apart, told-same, told-free}
+use Rattle.operators.specs.Forced.{told-apart, told-same, told-free}
 use Rattle.operators.proofs.fixed.eq_pair.Statement.{statement}
 use Rattle.operators.proofs.fixed.eq_pair.Tie as tie
 
@@ -9,17 +10,17 @@ xor-pair-requires : tie.Need-xor-pair-requires
 xor-pair-requires c κs = search needs
 
 returns : tie.Need-returns
-returns c = told-apart (c .before .before .xor-pair .result) (c .if1 .taken) ∙ ap told (c .before .before .xor-pair .ensures)
+returns c = sym (told-apart (c .before .before .xor-pair .result) (c .if1 .taken)) ∙ ap told (c .before .before .xor-pair .ensures)
 
 returns-2 : tie.Need-returns-2
 returns-2 c =
     let x = c .before .before .before .before .xor-pair in
-    told-same (x .result) (c .before .before .if1 .left) (c .if2 .taken) ∙ ap told (x .ensures)
+    sym (told-same (x .result) (c .before .before .if1 .left) (c .if2 .taken)) ∙ ap told (x .ensures)
 
 returns-3 : tie.Need-returns-3
 returns-3 c =
     let x = c .before .before .before .before .xor-pair in
-    told-free (x .result) (c .before .before .if1 .left) (c .if2 .left) ∙ ap told (x .ensures)
+    sym (told-free (x .result) (c .before .before .if1 .left) (c .if2 .left)) ∙ ap told (x .ensures)
 
 pub eq-pair-spec : {M : Type 1} → statement M
 eq-pair-spec = tie.close (tie.spec xor-pair-requires returns returns-2 returns-3)

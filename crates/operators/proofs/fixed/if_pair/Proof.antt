@@ -1,3 +1,4 @@
+-- A fixed condition chooses a branch; any other leaves the bits fixed alike in both.
 use borrow.Author.Tests.{eq-eqb, ne-eqb}
 use Rattle.operators.proofs.Pairs.{branch-zero, branch-some}
 use Rattle.operators.proofs.fixed.if_pair.Statement.{statement}

@@ -1,3 +1,4 @@
+-- A fixed amount shifts lo and hi; any other leaves all free.
 use borrow.Author.Needs.{needs}
 use mathlib.Core.Path.{ap₂}
 use borrow.Author.Tests.{eq-eqb, ne-eqb}

@@ -1,3 +1,4 @@
+-- The position that lowest_free finds is at most w, and is the definition's.
 use borrow.Author.Needs.{needs}
 use mathlib.Core.Path.{ap, _∙_}
 use Prim.Native.Nat.{ℕ}

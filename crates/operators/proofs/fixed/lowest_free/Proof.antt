@@ -1,3 +1,4 @@
+-- The zeros among w digits are those among 64, but at most w.
 use native.Mathlib.Omega.{arith}
 use lib.Bits.{bitOr}
 use Rattle.operators.specs.Fixed.{freeOf}

@@ -1,3 +1,4 @@
+-- A full word of 64 bits, cut to w bits.
 use borrow.Author.Needs.{needs}
 use mathlib.Core.Path.{_∙_}
 use native.Mathlib.Omega.{arith}

@@ -1,9 +1,11 @@
+-- Each arm of the match is the pair of its kind; what the parts ask comes from the width rule at hi, and lo is no greater.
 use borrow.Author.Needs.{needs}
 use mathlib.Core.Path.{ap₂}
 use Prim.Native.Nat.{_+_, _*_}
 use native.Mathlib.Omega.{arith}
 use Rattle.operators.specs.Fixed.{pair}
-use Rattle.operators.proofs.Pairs.{lo-lt, low-fits, low-is}
+use Rattle.operators.specs.Sound.{lo-lt}
+use Rattle.operators.proofs.Pairs.{low-fits, low-is}
 use Rattle.operators.proofs.Parts.{join-asks, part-asks, last-kind}
 use Rattle.operators.proofs.fixed.pair_of.Statement.{statement}
 use Rattle.operators.proofs.fixed.pair_of.Tie as tie

@@ -1,3 +1,4 @@
+-- The k low bits under the ones from k to w: the parts fit, and make the pair of the definition.
 use borrow.Author.Needs.{needs}
 use native.Mathlib.Nat.{lt-of-lt-of-le}
 use lib.Pow.{pow-mono}

@@ -1,3 +1,4 @@
+-- The complement of a 64-bit word, cut to w bits, is the complement of w bits.
 use borrow.Author.Needs.{needs}
 use mathlib.Core.Path.{_∙_}
 use native.Mathlib.Omega.{arith}

@@ -1,3 +1,4 @@
+-- The shifted high bits lose nothing, and the low bits stand under them.
 use borrow.Author.Needs.{needs}
 use native.Mathlib.Omega.{arith}
 use Rattle.words.specs.Shift.{join-law}

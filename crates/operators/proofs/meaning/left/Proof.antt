@@ -1,3 +1,4 @@
+-- Below 64 the shift is cut to w bits; an amount of 64 or more shifts everything out.
 use borrow.Author.Needs.{needs}
 use mathlib.Core.Path.{_∙_}
 use Prim.Native.Nat.{_*_, _^_}

@@ -1,3 +1,4 @@
+-- A product modulo 2^64, cut to w bits, is the product modulo 2^w.
 use borrow.Author.Needs.{needs}
 use mathlib.Core.Path.{_∙_}
 use Prim.Native.Nat.{_*_}

@@ -1,3 +1,4 @@
+-- An amount of 64 or more shifts everything out.
 use borrow.Author.Needs.{needs}
 use native.Mathlib.Omega.{arith}
 use Rattle.words.specs.Shift.{out-right}

@@ -1,3 +1,4 @@
+-- Each arm of the match is the meaning of its kind; what the parts ask comes from the width rule.
 use borrow.Author.Needs.{needs}
 use lib.Dec.{eqb, ltb}
 use Rattle.operators.proofs.Parts.{flagged, chosen, join-asks, part-asks, last-kind}

@@ -1,3 +1,4 @@
+-- Each arm of the match is the test of its width rule.
 use borrow.Author.Needs.{needs}
 use Rattle.operators.specs.Table.{ruleHolds}
 use Rattle.operators.proofs.table.rule_holds.Statement.{statement}

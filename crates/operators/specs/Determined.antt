@@ -1,0 +1,29 @@
+-- The contract of each public function determines its result: any two results that it allows are equal.
+use mathlib.Core.Path.{_≡_, sym, _∙_}
+use mathlib.Core.Bool.{Bool}
+use Prim.Native.Nat.{ℕ}
+use Rattle.operators.specs.declared.fixed.Pair.{Pair}
+use Rattle.operators.specs.declared.meaning.Op.{Op}
+use Rattle.operators.specs.declared.table.Rule.{Rule}
+use Rattle.operators.specs.declared.table.Shape.{Shape}
+use Rattle.operators.specs.Table.{kindOf, shapeOf, ruleHolds}
+use Rattle.operators.specs.Meaning.{meaning}
+use Rattle.operators.specs.Fixed.{pairOf}
+
+-- every contract here is an equation
+equal : {A : Type 0} {v r s : A} → r ≡ v → s ≡ v → r ≡ s
+equal p q = p ∙ sym q
+
+pub shape-of-determined : (kind : ℕ) (r s : Shape) → r ≡ shapeOf kind → s ≡ shapeOf kind → r ≡ s
+shape-of-determined kind r s = equal
+
+pub rule-holds-determined : (rule : Rule) (w wa wb wc b : ℕ) (r s : Bool) → r ≡ ruleHolds rule w wa wb wc b → s ≡ ruleHolds rule w wa wb wc b → r ≡ s
+rule-holds-determined rule w wa wb wc b r s = equal
+
+pub value-determined : (op : Op) (x y z r s : ℕ) → r ≡ meaning (kindOf (op .kind)) (op .width) (op .wa) (op .wb) (op .low) x y z
+    → s ≡ meaning (kindOf (op .kind)) (op .width) (op .wa) (op .wb) (op .low) x y z → r ≡ s
+value-determined op x y z r s = equal
+
+pub pair-of-determined : (op : Op) (p q r v u : Pair) → v ≡ pairOf (kindOf (op .kind)) (op .width) (op .wa) (op .wb) (op .low) p q r
+    → u ≡ pairOf (kindOf (op .kind)) (op .width) (op .wa) (op .wb) (op .low) p q r → v ≡ u
+pair-of-determined op p q r v u = equal
