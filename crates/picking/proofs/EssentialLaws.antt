@@ -1,0 +1,183 @@
+-- Laws of essential positions: of one, of two, and of the positions of `if`.
+use mathlib.Core.Path.{_≡_, refl, sym, ap, _∙_}
+use mathlib.Core.Bool.{Bool, true, false, not, _&&_, _||_}
+use mathlib.Core.Logic.{_⊎_, inl, inr, ⊎-elim}
+use Prim.Native.Nat.{ℕ, zero, suc, _-_, _^_, _≤_, _<_}
+use native.Mathlib.Omega.{arith}
+use lib.Dec.{eqb}
+use borrow.Author.Tests.{eqb-true, eqb-false}
+use Rattle.words.specs.Agree.{Agrees, agrees-lt}
+use Rattle.words.specs.Decides.{Decides, decides-same}
+use Rattle.words.specs.Pick.{Empty}
+use Rattle.operators.specs.Table.{kindOf, shapeOf}
+use Rattle.operators.specs.Meaning.{meaning, Fit}
+use Rattle.picking.specs.declared.spot.Three.{Three}
+use Rattle.picking.specs.declared.spot.Spot.{Spot}
+use Rattle.picking.specs.Spot.{at, put, positions, Other, value, Inverse, Essential, Fair, Asked}
+use Rattle.picking.specs.Positions.{at-put-same, at-put-other, value-used}
+use Rattle.picking.specs.Asks.{branchOf, Had}
+use Rattle.picking.proofs.ChoiceLaws.{chosen, chosen-at}
+use Rattle.picking.proofs.SpotLaws.{slot-lt, count-at, rule-at, slot-at, two-of, other-of}
+
+-- ---- tests
+pub decides-and : (A B : Type 0) (a b : Bool) → Decides A a → Decides B b → Decides (A × B) (a && b)
+decides-and A B true true p q = (p, q)
+decides-and A B true false p q = λ m. q (m .1)
+decides-and A B false b p q = λ m. p (m .0)
+
+pub decides-or : (A B : Type 0) (a b : Bool) → Decides A a → Decides B b → Decides (A ⊎ B) (a || b)
+decides-or A B true b p q = inl p
+decides-or A B false true p q = inr q
+decides-or A B false false p q = ⊎-elim p q
+
+pub decides-not : (A : Type 0) (a : Bool) → Decides A a → Decides (A → ⊥) (not a)
+decides-not A true p = λ f. f p
+decides-not A false p = p
+
+pub decides-eq : (x y : ℕ) → Decides (x ≡ y) (eqb x y)
+decides-eq x y = go (eqb x y) refl
+  where
+    go : (b : Bool) → eqb x y ≡ b → Decides (x ≡ y) b
+    go true e = eqb-true x y e
+    go false e = eqb-false x y e
+
+-- ---- of one position, as not and extract have: no others can help
+module _ (S : Spot) (F : Fair S) where
+  -- what code asks of the operator, and what it is told
+  pub alone-fit : (S .kind ≡ 2) ⊎ (S .kind ≡ 13) → Fit (shapeOf (S .kind) .rule) (S .width) (S .widths .a) 0 (S .low) (S .current .a) 0 0
+  alone-fit (inl e) = rw (e, ← rule-at F e) (slot-lt (slot-at F e 0 (omega arith)))
+  alone-fit (inr e) = rw e (rule-at F e, slot-at F e 0 (omega arith) .wide, slot-lt (slot-at F e 0 (omega arith)))
+
+  pub alone-value : (S .kind ≡ 2) ⊎ (S .kind ≡ 13) → meaning (kindOf (S .kind)) (S .width) (S .widths .a) 0 (S .low) (S .current .a) 0 0 ≡ value S (S .current)
+  alone-value (inl e) = rw e
+  alone-value (inr e) = rw e
+
+  pub alone-one : (S .kind ≡ 2) ⊎ (S .kind ≡ 13) → positions S ≡ 1
+  alone-one = ⊎-elim (count-at F) (count-at F)
+
+pub alone : (S : Spot) (t r : ℕ) → positions S ≡ 1 → r ≡ value S (S .current) → Decides (Essential S t 0) (not (eqb r t))
+unfolding Essential
+alone S t r one e = decides-same (r ≡ t → ⊥) (Essential S t 0) (λ f o g m. f (e ∙ sym (same o) ∙ m)) (λ E q. E (S .current) (λ j l. absurd (l .apart (omega (arith, l .below, one)))) (same (S .current) ∙ sym e ∙ q)) (not (eqb r t)) (decides-not (r ≡ t) (eqb r t) (decides-eq r t))
+  where
+    same : (o : Three) → value S (put o 0 (S .current .a)) ≡ value S (S .current)
+    same o = value-used S (put o 0 (S .current .a)) (S .current) (λ j l. first j (omega (arith, l, one)))
+      where
+        first : (j : ℕ) → j ≡ 0 → at (put o 0 (S .current .a)) j ≡ at (S .current) j
+        first j e = rw e
+
+-- ---- of two: the other position's value, with this one's current one
+module _ (S : Spot) (t i : ℕ) (two : positions S ≡ 2) (h : i < 2) where
+  swapped : (o : Three) → value S (put (S .current) (1 - i) (at o (1 - i))) ≡ value S (put o i (at (S .current) i))
+  swapped o = value-used S (put (S .current) (1 - i) (at o (1 - i))) (put o i (at (S .current) i)) (λ j l. same i h j (rw two at l))
+    where
+      same : (i : ℕ) → i < 2 → (j : ℕ) → j < 2 → at (put (S .current) (1 - i) (at o (1 - i))) j ≡ at (put o i (at (S .current) i)) j
+      same i h j l = two-of (λ i. at (put (S .current) (1 - i) (at o (1 - i))) j ≡ at (put o i (at (S .current) i)) j) i h (two-of (λ j. at (put (S .current) 1 (o .b)) j ≡ at (put o 0 (S .current .a)) j) j l refl refl) (two-of (λ j. at (put (S .current) 0 (o .a)) j ≡ at (put o 1 (S .current .b)) j) j l refl refl)
+
+  pub two-yes : Empty (Inverse S t (1 - i)) → Essential S t i
+  unfolding Essential
+  two-yes f o g m = f (at o (1 - i)) (record { agrees = g (1 - i) (record { below = rw two (omega arith); apart = λ e. omega arith }); gives = swapped o ∙ m })
+
+  pub two-no : (v : ℕ) → Inverse S t (1 - i) v → Essential S t i → ⊥
+  unfolding Essential
+  two-no v m E = E (put (S .current) (1 - i) v) (λ j l. let e = other-of i j h (rw two at (l .below)) (l .apart) in rw (e, at-put-same (S .current) (1 - i) v (omega arith)) (m .agrees))
+      (sym (swapped (put (S .current) (1 - i) v)) ∙ ap (λ (n : ℕ). value S (put (S .current) (1 - i) n)) (at-put-same (S .current) (1 - i) v (omega arith)) ∙ m .gives)
+
+-- ---- of `if`
+
+-- values that agree, with one put among them that does
+agree-put : (S : Spot) (x : Three) → ((k : ℕ) → k < 3 → Agrees (at (S .los) k) (at (S .his) k) (at x k)) → (j v : ℕ) → j < 3 → Agrees (at (S .los) j) (at (S .his) j) v
+    → (k : ℕ) → k < 3 → Agrees (at (S .los) k) (at (S .his) k) (at (put x j v) k)
+agree-put S x g j v h m k l = go (eqb k j) refl
+  where
+    go : (b : Bool) → eqb k j ≡ b → Agrees (at (S .los) k) (at (S .his) k) (at (put x j v) k)
+    go true e = rw (eqb-true k j e, at-put-same x j v h) m
+    go false e = rw (at-put-other x j v k h l (eqb-false k j e)) (g k l)
+
+-- branch i is taken where the condition is 2 - i
+branch-way : (i : ℕ) → 1 ≤ i → i < 3 → (branchOf (2 - i) ≡ i) × (branchOf (1 - (2 - i)) ≡ 3 - i)
+branch-way zero l h = absurd (omega arith)
+branch-way (suc zero) l h = (refl, refl)
+branch-way (suc (suc zero)) l h = (refl, refl)
+branch-way (suc (suc (suc i))) l h = absurd (omega arith)
+
+way-of : (x i : ℕ) → x < 2 → 1 ≤ i → i < 3 → (x ≡ 2 - i) ⊎ (x ≡ 1 - (2 - i))
+way-of zero i h l k = go i l k
+  where
+    go : (i : ℕ) → 1 ≤ i → i < 3 → (0 ≡ 2 - i) ⊎ (0 ≡ 1 - (2 - i))
+    go zero l k = absurd (omega arith)
+    go (suc zero) l k = inr refl
+    go (suc (suc i)) l k = inl (omega arith)
+way-of (suc zero) i h l k = go i l k
+  where
+    go : (i : ℕ) → 1 ≤ i → i < 3 → (1 ≡ 2 - i) ⊎ (1 ≡ 1 - (2 - i))
+    go zero l k = absurd (omega arith)
+    go (suc zero) l k = inl refl
+    go (suc (suc i)) l k = inr (omega arith)
+way-of (suc (suc x)) i h l k = absurd (omega arith)
+
+module _ (S : Spot) (t : ℕ) (F : Fair S) (key : S .kind ≡ 11) where
+  now : (k : ℕ) → k < 3 → Agrees (at (S .los) k) (at (S .his) k) (at (S .current) k)
+  now k h = slot-at F key k h .agrees
+
+  another : (i j : ℕ) → j < 3 → (j ≡ i → ⊥) → Other S i j
+  another i j h f = record { below = rw (count-at F key) h; apart = f }
+
+  below : {i j : ℕ} → Other S i j → j < 3
+  below q = rw (count-at F key) at (q .below)
+
+  -- what is kept at position i and what is given, where branch j is taken
+  given : (o : Three) (i v j : ℕ) → branchOf (put o i v .a) ≡ j → value S (put o i v) ≡ at (put o i v) j
+  given o i v j e = ap (λ (n : ℕ). meaning (kindOf n) (S .width) (S .widths .a) (S .widths .b) (S .low) (put o i v .a) (put o i v .b) (put o i v .c)) key ∙ chosen-at (put o i v) ∙ ap (at (put o i v)) e
+
+  -- the condition keeps its value: the branch that it takes has to be t
+  module _ (j : ℕ) (ej : branchOf (S .current .a) ≡ j) (low : 1 ≤ j) (h : j < 3) where
+    kept : (o : Three) → value S (put o 0 (S .current .a)) ≡ at o j
+    kept o = given o 0 (S .current .a) j ej ∙ at-put-other o 0 (S .current .a) j (omega arith) h (λ e. omega arith)
+
+    pub condition : (b : Bool) → Decides (Agrees (at (S .los) j) (at (S .his) j) t) b → Decides (Essential S t 0) (not b)
+    unfolding Essential
+    condition b d =
+        decides-same (Agrees (at (S .los) j) (at (S .his) j) t → ⊥) (Essential S t 0) (λ f o g m. f (rw (sym (kept o) ∙ m) at (g j (another 0 j h (λ e. omega arith)))))
+        (λ E q. E (put (S .current) j t) (λ k l. agree-put S (S .current) now j t h q k (below l)) (kept (put (S .current) j t) ∙ at-put-same (S .current) j t h)) (not b)
+        (decides-not (Agrees (at (S .los) j) (at (S .his) j) t) b d)
+
+  -- branch i keeps its value: it is taken with t, or the other way with t at the other branch
+  module _ (i : ℕ) (low : 1 ≤ i) (h : i < 3) where
+    abbrev HadAt : Type 0
+    HadAt = Had (S .los .a) (S .his .a) (2 - i) (at (S .current) i) (at (S .los) (3 - i)) (at (S .his) (3 - i)) t
+
+    cond : (o : Three) (v : ℕ) → put o i v .a ≡ o .a
+    cond o v = at-put-other o i v 0 h (omega arith) (λ e. omega arith)
+
+    had-by : (o : Three) → ((j : ℕ) → Other S i j → Agrees (at (S .los) j) (at (S .his) j) (at o j)) → value S (put o i (at (S .current) i)) ≡ t → HadAt
+    had-by o g m = go (way-of (o .a) i short low h)
+      where
+        first : Agrees (S .los .a) (S .his .a) (o .a)
+        first = g 0 (another i 0 (omega arith) (λ e. omega arith))
+
+        short : o .a < 2
+        short = rw (rule-at F key .0) at (agrees-lt (S .widths .a) (slot-at F key 0 (omega arith) .under) first)
+
+        go : (o .a ≡ 2 - i) ⊎ (o .a ≡ 1 - (2 - i)) → HadAt
+        go (inl e) = inl (rw e at first, sym (given o i (at (S .current) i) i (ap branchOf (cond o (at (S .current) i) ∙ e) ∙ branch-way i low h .0) ∙ at-put-same o i (at (S .current) i) h) ∙ m)
+        go (inr e) =
+            inr (rw e at first, rw (sym (given o i (at (S .current) i) (3 - i) (ap branchOf (cond o (at (S .current) i) ∙ e) ∙ branch-way i low h .1) ∙ at-put-other o i (at (S .current) i) (3 - i) h (omega arith) (λ q. omega arith)) ∙ m) at (g (3 - i) (another i (3 - i) (omega arith) (λ q. omega arith))))
+
+    by-had : HadAt → Essential S t i → ⊥
+    unfolding Essential
+    by-had (inl q) E =
+        let o = put (S .current) 0 (2 - i) in
+        E o (λ k l. agree-put S (S .current) now 0 (2 - i) (omega arith) (q .0) k (below l))
+        (given o i (at (S .current) i) i (ap branchOf (cond o (at (S .current) i)) ∙ branch-way i low h .0) ∙ at-put-same o i (at (S .current) i) h ∙ q .1)
+    by-had (inr q) E =
+        let p = put (S .current) 0 (1 - (2 - i)) in
+        let o = put p (3 - i) t in
+        let g = agree-put S (S .current) now 0 (1 - (2 - i)) (omega arith) (q .0) in
+        let e : o .a ≡ 1 - (2 - i) = at-put-other p (3 - i) t 0 (omega arith) (omega arith) (λ d. omega arith) in
+        E o (λ k l. agree-put S p g (3 - i) t (omega arith) (q .1) k (below l))
+        (given o i (at (S .current) i) (3 - i) (ap branchOf (cond o (at (S .current) i) ∙ e) ∙ branch-way i low h .1)
+        ∙ at-put-other o i (at (S .current) i) (3 - i) h (omega arith) (λ d. omega arith) ∙ at-put-same p (3 - i) t (omega arith))
+
+    pub branch : (b : Bool) → Decides HadAt b → Decides (Essential S t i) (not b)
+    unfolding Essential
+    branch b d = decides-same (HadAt → ⊥) (Essential S t i) (λ f o g m. f (had-by o g m)) (λ E q. by-had q E) (not b) (decides-not HadAt b d)

@@ -1,0 +1,10 @@
+pub mod ArithmeticLaws
+pub mod BitwiseLaws
+pub mod BoxLaws
+pub mod ChoiceLaws
+pub mod ComparisonLaws
+pub mod EssentialLaws
+pub mod JoiningLaws
+pub mod KindLaws
+pub mod ShiftLaws
+pub mod SpotLaws

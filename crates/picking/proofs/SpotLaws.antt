@@ -1,0 +1,283 @@
+-- Laws of spots: what the arms of a match on the kind know, and what an arm's set comes to at the spot.
+use mathlib.Core.Path.{_≡_, refl, sym, ap, _∙_, subst}
+use mathlib.Core.Bool.{Bool, true, false}
+use mathlib.Core.Logic.{_⊎_, inl, inr}
+use Prim.Native.Nat.{ℕ, zero, suc, _+_, _-_, _*_, _/_, _%_, _^_, _≤_, _<_}
+use native.Mathlib.Nat.{le-refl, le-of-eq, lt-of-lt-of-le, mod-lt, mod-eq-of-lt, add-comm, add-mod-mod, add-mod-right}
+use native.Mathlib.Omega.{arith}
+use lib.Bits.{bitXor, xor-lt, xor-comm}
+use lib.Dec.{eqb}
+use lib.Pow.{pow-pos, pow-mono}
+use borrow.Author.Tests.{eqb-true, eqb-false}
+use types.Run.{OneOf}
+use Rattle.words.specs.declared.found.Found.{Found}
+use Rattle.words.specs.Agree.{Agrees, agrees-lt}
+use Rattle.words.specs.Pick.{Picked, picked-same}
+use Rattle.operators.specs.declared.table.Rule.the-variants.{Both, Equal}
+use Rattle.operators.specs.Table.{kindOf, row, shapeOf, RuleMet}
+use Rattle.operators.specs.Meaning.{meaning, flag, choose}
+use Rattle.picking.specs.declared.spot.Three.{Three}
+use Rattle.picking.specs.declared.spot.Spot.{Spot}
+use Rattle.picking.specs.declared.boxes.Set.{Set}
+use Rattle.picking.specs.Spot.{at, put, positions, Other, value, Reaches, Slot, Fair, Asked}
+use Rattle.picking.specs.Positions.{at-put-same, value-used}
+use Rattle.picking.specs.Boxes.{Solves, Chosen, Some}
+use Rattle.picking.specs.Asks.{joint, sideOf, Joined}
+use Rattle.picking.proofs.BitwiseLaws.{xor-back}
+use Rattle.picking.proofs.BoxLaws.{solves-by}
+use Rattle.picking.proofs.ChoiceLaws.{chosen}
+use Rattle.picking.proofs.ComparisonLaws.{yes-equal, no-equal}
+use Rattle.picking.proofs.KindLaws.{makeup}
+
+-- ---- by position
+pub at-rest : (x : Three) (i : ℕ) → (i ≡ 0 → ⊥) → (i ≡ 1 → ⊥) → x .c ≡ at x i
+at-rest x zero f g = absurd (f refl)
+at-rest x (suc zero) f g = absurd (g refl)
+at-rest x (suc (suc i)) f g = refl
+
+pub other-rest : (x : Three) (i : ℕ) → (i ≡ 0 → ⊥) → x .a ≡ at x (1 - i)
+other-rest x zero f = absurd (f refl)
+other-rest x (suc zero) f = refl
+other-rest x (suc (suc i)) f = let e : 1 - suc (suc i) ≡ 0 = omega arith in rw e
+
+-- what holds of a and of b holds of any of two positions
+pub two-of : (P : ℕ → Type 0) (i : ℕ) → i < 2 → P 0 → P 1 → P i
+two-of P zero h a b = a
+two-of P (suc zero) h a b = b
+two-of P (suc (suc i)) h a b = absurd (omega arith)
+
+pub other-of : (i j : ℕ) → i < 2 → j < 2 → (j ≡ i → ⊥) → j ≡ 1 - i
+other-of i j h l f = omega arith
+
+pub joint-at : (i v s : ℕ) → i < 2 → at (joint i v s) (1 - i) ≡ s
+joint-at i v s h = two-of (λ i. at (joint i v s) (1 - i) ≡ s) i h refl refl
+
+-- ---- what an arm knows of a spot of its kind
+pub slot-lt : {w lo hi v : ℕ} → Slot w lo hi v → v < 2 ^ w
+slot-lt {w} s = agrees-lt w (s .under) (s .agrees)
+
+pub wide-at : {S : Spot} {i t : ℕ} → Asked S i t → at (S .widths) i ≤ 64
+wide-at {S} {i} A = A .fair .slots i (A .position) .wide
+
+module _ {S : Spot} {m : ℕ} (F : Fair S) (key : S .kind ≡ m) where
+  pub rule-at : RuleMet (shapeOf m .rule) (S .width) (S .widths .a) (S .widths .b) (S .widths .c) (S .low)
+  rule-at = rw key at (F .rule)
+
+  pub count-at : positions S ≡ shapeOf m .operands
+  count-at = ap (λ (n : ℕ). shapeOf n .operands) key
+
+  pub slot-at : (j : ℕ) → j < shapeOf m .operands → Slot (at (S .widths) j) (at (S .los) j) (at (S .his) j) (at (S .current) j)
+  slot-at j h = F .slots j (rw count-at h)
+
+module _ {S : Spot} {i t m : ℕ} (A : Asked S i t) (key : S .kind ≡ m) where
+  pub place : i < shapeOf m .operands
+  place = rw (count-at (A .fair) key) at (A .position)
+
+  -- the other operand's current value
+  pub other-lt : {y : ℕ} → 1 < shapeOf m .operands → y ≡ at (S .current) (1 - i) → y < 2 ^ at (S .widths) (1 - i)
+  other-lt h e = rw e (slot-lt (slot-at (A .fair) key (1 - i) (omega arith)))
+
+  -- both operands have the node's width
+  module _ (both : shapeOf m ≡ row 2 2 Both) where
+    both-width : (j : ℕ) → j < 2 → at (S .widths) j ≡ S .width
+    both-width j h =
+        let e : (S .widths .a ≡ S .width) × (S .widths .b ≡ S .width) = rw both at (rule-at (A .fair) key) in
+        two-of (λ j. at (S .widths) j ≡ S .width) j h (e .0) (e .1)
+
+    pub both-wide : at (S .widths) i ≤ S .width
+    both-wide = le-of-eq (both-width i (rw both at place))
+
+    pub both-other : at (S .widths) (1 - i) ≡ S .width
+    both-other = both-width (1 - i) (omega arith)
+
+    pub both-lt : {y : ℕ} → y ≡ at (S .current) (1 - i) → y < 2 ^ S .width
+    both-lt e = rw both-other at (other-lt (rw both (omega arith)) e)
+
+  -- a test has operands of one width, and its target is a bit
+  module _ (equal : shapeOf m ≡ row 2 2 Equal) where
+    equal-rule : (S .widths .a ≡ S .widths .b) × (S .width ≡ 1)
+    equal-rule = rw equal at (rule-at (A .fair) key)
+
+    pub equal-width : (j : ℕ) → j < 2 → at (S .widths) j ≡ S .widths .a
+    equal-width j h = two-of (λ j. at (S .widths) j ≡ S .widths .a) j h refl (sym (equal-rule .0))
+
+    pub flag-target : t < 2
+    flag-target = rw (equal-rule .1) at (A .target)
+
+-- concat
+pub joined-at : {S : Spot} {i t : ℕ} → Asked S i t → S .kind ≡ 12 → Joined i (S .widths .a) (S .widths .b) t
+joined-at {S} {i} {t} A key =
+    let e : S .widths .a + S .widths .b ≡ S .width = rule-at (A .fair) key in
+    record {
+      position = place A key;
+      some = slot-at (A .fair) key 0 (omega arith) .some;
+      wide = omega (arith, e, A .fair .wide);
+      fits = rw e (A .target);
+    }
+
+pub side-at : (S : Spot) (i : ℕ) → i < 2 → sideOf i (S .widths .a) (S .widths .b) ≡ at (S .widths) i
+side-at S i h = two-of (λ i. sideOf i (S .widths .a) (S .widths .b) ≡ at (S .widths) i) i h refl refl
+
+-- ---- what an arm's set comes to: with the others at their current values
+
+-- an operator of two operands sees v and what stands at the other position
+value-joint : (S : Spot) (x : Three) (i v : ℕ) → positions S ≡ 2 → i < 2 → value S (put x i v) ≡ value S (joint i v (at x (1 - i)))
+value-joint S x i v two h = value-used S (put x i v) (joint i v (at x (1 - i))) (λ j l. same j (rw two at l))
+  where
+    same : (j : ℕ) → j < 2 → at (put x i v) j ≡ at (joint i v (at x (1 - i))) j
+    same j l = two-of (λ i. at (put x i v) j ≡ at (joint i v (at x (1 - i))) j) i h (two-of (λ j. at (put x 0 v) j ≡ at (joint 0 v (x .b)) j) j l refl refl) (two-of (λ j. at (put x 1 v) j ≡ at (joint 1 v (x .a)) j) j l refl refl)
+
+module _ {S : Spot} {i t m : ℕ} (A : Asked S i t) (key : S .kind ≡ m) where
+  abbrev opAt : Three → ℕ
+  opAt q = meaning (kindOf m) (S .width) (S .widths .a) (S .widths .b) (S .low) (q .a) (q .b) (q .c)
+
+  op-at : (q : Three) → value S q ≡ opAt q
+  op-at q = ap (λ (n : ℕ). meaning (kindOf n) (S .width) (S .widths .a) (S .widths .b) (S .low) (q .a) (q .b) (q .c)) key
+
+  pub arm : {u : ℕ} {r : Set} → at (S .widths) i ≤ u → Solves u (λ v. opAt (put (S .current) i v) ≡ t) r → Solves (at (S .widths) i) (λ v. value S (put (S .current) i v) ≡ t) r
+  arm h s = solves-by h s (λ v l e. op-at (put (S .current) i v) ∙ e) (λ v l e. sym (op-at (put (S .current) i v)) ∙ e)
+
+  pub arm-one : {u : ℕ} {r : Set} → shapeOf m .operands ≡ 1 → S .widths .a ≤ u → Solves u (λ v. opAt (put (S .current) 0 v) ≡ t) r → Solves (at (S .widths) i) (λ v. value S (put (S .current) i v) ≡ t) r
+  arm-one {u} {r} one h s = let e : i ≡ 0 = omega (arith, place A key, one) in rw e (solves-by h s (λ v l k. op-at (put (S .current) 0 v) ∙ k) (λ v l k. sym (op-at (put (S .current) 0 v)) ∙ k))
+
+  module _ (two : shapeOf m .operands ≡ 2) where
+    place-two : i < 2
+    place-two = rw two at (place A key)
+
+    pub arm-two : {u y : ℕ} {r : Set} → at (S .widths) i ≤ u → y ≡ at (S .current) (1 - i) → Solves u (λ v. opAt (joint i v y) ≡ t) r
+        → Solves (at (S .widths) i) (λ v. value S (put (S .current) i v) ≡ t) r
+    arm-two {u} {y} h e s = solves-by h s (λ v l k. same v ∙ k) (λ v l k. sym (same v) ∙ k)
+      where
+        same : (v : ℕ) → value S (put (S .current) i v) ≡ opAt (joint i v y)
+        same v = value-joint S (S .current) i v (count-at (A .fair) key ∙ two) place-two ∙ ap (λ (n : ℕ). value S (joint i v n)) (sym e) ∙ op-at (joint i v y)
+
+    -- ---- and with some values of the others
+    to-reach : {k : ℕ} (v : ℕ) → at (S .widths) (1 - i) ≡ k → Some k (λ s. opAt (joint i v s) ≡ t) → Reaches S t i v
+    to-reach v e m = record {
+      others = joint i v (m .by);
+      any = λ j q. let d = other-of i j place-two (rw (count-at (A .fair) key, two) at (q .below)) (q .apart) in rw (d, joint-at i v (m .by) place-two, e) (m .fits);
+      gives = two-of (λ i. value S (put (joint i v (m .by)) i v) ≡ value S (joint i v (m .by))) i place-two refl refl ∙ op-at (joint i v (m .by)) ∙ m .gives;
+    }
+
+    of-reach : {k : ℕ} (v : ℕ) → at (S .widths) (1 - i) ≡ k → Reaches S t i v → Some k (λ s. opAt (joint i v s) ≡ t)
+    of-reach v e m = record {
+      by = at (m .others) (1 - i);
+      fits = rw e at (m .any (1 - i) (record { below = rw (count-at (A .fair) key, two) (omega arith); apart = λ q. omega (arith, place-two) }));
+      gives = sym (op-at (joint i v (at (m .others) (1 - i)))) ∙ sym (value-joint S (m .others) i v (count-at (A .fair) key ∙ two) place-two) ∙ m .gives;
+    }
+
+    pub reach-two : {u k : ℕ} {r : Set} → at (S .widths) i ≤ u → at (S .widths) (1 - i) ≡ k → Solves u (λ v. Some k (λ s. opAt (joint i v s) ≡ t)) r → Solves (at (S .widths) i) (λ v. Reaches S t i v) r
+    reach-two h e s = solves-by h s (λ v l m. to-reach v e m) (λ v l m. of-reach v e m)
+
+-- an operator that does not mind the order
+alike : (f : ℕ → ℕ → ℕ) → ((x y : ℕ) → f x y ≡ f y x) → (i v s : ℕ) → f (joint i v s .a) (joint i v s .b) ≡ f v s
+alike f comm zero v s = refl
+alike f comm (suc i) v s = comm s v
+
+module _ (f : ℕ → ℕ → ℕ) (comm : (x y : ℕ) → f x y ≡ f y x) (i : ℕ) {u t : ℕ} {r : Set} where
+  pub alike-by : {s : ℕ} → Solves u (λ v. f v s ≡ t) r → Solves u (λ v. f (joint i v s .a) (joint i v s .b) ≡ t) r
+  alike-by {s} m = solves-by (le-refl u) m (λ v l e. alike f comm i v s ∙ e) (λ v l e. sym (alike f comm i v s) ∙ e)
+
+  pub alike-some : {k : ℕ} → Solves u (λ v. Some k (λ s. f v s ≡ t)) r → Solves u (λ v. Some k (λ s. f (joint i v s .a) (joint i v s .b) ≡ t)) r
+  alike-some m =
+      solves-by (le-refl u) m (λ v l e. record { by = e .by; fits = e .fits; gives = alike f comm i v (e .by) ∙ e .gives })
+      (λ v l e. record { by = e .by; fits = e .fits; gives = sym (alike f comm i v (e .by)) ∙ e .gives })
+
+pub equal-comm : (x y : ℕ) → flag (eqb x y) ≡ flag (eqb y x)
+equal-comm x y = go (eqb x y) refl
+  where
+    go : (b : Bool) → eqb x y ≡ b → flag (eqb x y) ≡ flag (eqb y x)
+    go true e = yes-equal x y (eqb-true x y e) ∙ sym (yes-equal y x (sym (eqb-true x y e)))
+    go false e = no-equal x y (eqb-false x y e) ∙ sym (no-equal y x (λ q. eqb-false x y e (sym q)))
+
+-- no others: consistent is inverse
+pub reach-one : {S : Spot} {i t : ℕ} {r : Set} → Asked S i t → positions S ≡ 1 → Solves (at (S .widths) i) (λ v. value S (put (S .current) i v) ≡ t) r → Solves (at (S .widths) i) (λ v. Reaches S t i v) r
+reach-one {S} {i} {t} A one s =
+    solves-by (le-refl _) s
+    (λ v l e. record { others = S .current; any = λ j q. absurd (q .apart (omega (arith, q .below, A .position, one))); gives = e })
+    (λ v l m. value-used S (put (S .current) i v) (put (m .others) i v) (λ j h. same v (m .others) j (omega (arith, h, A .position, one))) ∙ m .gives)
+  where
+    few : i < 3
+    few = omega (arith, A .position, one)
+
+    same : (v : ℕ) (o : Three) (j : ℕ) → j ≡ i → at (put (S .current) i v) j ≡ at (put o i v) j
+    same v o j e = rw e (at-put-same (S .current) i v few ∙ sym (at-put-same o i v few))
+
+-- ---- of xor, add, eq and if the others make up for any value
+module _ {S : Spot} {i t : ℕ} (A : Asked S i t) (v : ℕ) (hv : v < 2 ^ at (S .widths) i) where
+  reach-alike : {m k : ℕ} (key : S .kind ≡ m) → shapeOf m .operands ≡ 2 → at (S .widths) (1 - i) ≡ k → (f : ℕ → ℕ → ℕ) → ((x y : ℕ) → f x y ≡ f y x)
+      → ((x y z : ℕ) → meaning (kindOf m) (S .width) (S .widths .a) (S .widths .b) (S .low) x y z ≡ f x y) → Some k (λ s. f v s ≡ t) → Reaches S t i v
+  reach-alike key two e f comm is m =
+      to-reach A key two v e (record { by = m .by; fits = m .fits; gives = is (joint i v (m .by) .a) (joint i v (m .by) .b) (joint i v (m .by) .c) ∙ alike f comm i v (m .by) ∙ m .gives })
+
+  reach-xor : S .kind ≡ 4 → Reaches S t i v
+  reach-xor key =
+      reach-alike key refl (both-other A key refl) bitXor xor-comm (λ x y z. refl)
+      (record { by = bitXor t v; fits = xor-lt (S .width) t v (A .target) (lt-of-lt-of-le hv (pow-mono (both-wide A key refl))); gives = xor-comm v (bitXor t v) ∙ xor-back t v })
+
+  reach-add : S .kind ≡ 5 → Reaches S t i v
+  reach-add key =
+      let w = S .width in
+      let l : v < 2 ^ w = lt-of-lt-of-le hv (pow-mono (both-wide A key refl)) in
+      let e : v + (t + (2 ^ w - v)) ≡ t + 2 ^ w = omega arith in
+      reach-alike key refl (both-other A key refl) (λ x y. (x + y) % 2 ^ w) (λ x y. ap (λ (n : ℕ). n % 2 ^ w) (add-comm x y)) (λ x y z. refl)
+      (record {
+        by = (t + (2 ^ w - v)) % 2 ^ w;
+        fits = mod-lt (t + (2 ^ w - v)) (pow-pos w);
+        gives = add-mod-mod v (t + (2 ^ w - v)) (2 ^ w) ∙ ap (λ (n : ℕ). n % 2 ^ w) e ∙ add-mod-right t (2 ^ w) ∙ mod-eq-of-lt (A .target);
+      })
+
+  reach-eq : S .kind ≡ 9 → Reaches S t i v
+  reach-eq key = reach-alike key refl same (λ x y. flag (eqb x y)) equal-comm (λ x y z. refl) (by t (flag-target A key refl) refl v hv)
+    where
+      same : at (S .widths) (1 - i) ≡ at (S .widths) i
+      same = equal-width A key refl (1 - i) (omega arith) ∙ sym (equal-width A key refl i (place A key))
+
+      two : 1 < 2 ^ at (S .widths) i
+      two = pow-mono (A .fair .slots i (A .position) .some)
+
+      by : (q : ℕ) → q < 2 → t ≡ q → (u : ℕ) → u < 2 ^ at (S .widths) i → Some (at (S .widths) i) (λ s. flag (eqb u s) ≡ t)
+      by zero l e zero h = record { by = 1; fits = two; gives = sym e }
+      by zero l e (suc u) h = record { by = 0; fits = pow-pos (at (S .widths) i); gives = no-equal (suc u) 0 (λ q. omega arith) ∙ sym e }
+      by (suc zero) l e u h = record { by = u; fits = h; gives = yes-equal u u refl ∙ sym e }
+      by (suc (suc q)) l e u h = absurd (omega arith)
+
+  -- t at the branches, and a condition that does not take branch i
+  reach-if : S .kind ≡ 11 → Reaches S t i v
+  reach-if key = record {
+    others = record { a = i - 1; b = t; c = t };
+    any = λ j q. fits j (rw (count-at (A .fair) key) at (q .below));
+    gives = op-at A key (put (record { a = i - 1; b = t; c = t }) i v) ∙ gives i (place A key);
+  }
+    where
+      fits : (j : ℕ) → j < 3 → at (record { a = i - 1; b = t; c = t }) j < 2 ^ at (S .widths) j
+      fits zero h = rw (rule-at (A .fair) key .0) (omega (arith, place A key))
+      fits (suc zero) h = rw (rule-at (A .fair) key .1) (A .target)
+      fits (suc (suc j)) h = rw (rule-at (A .fair) key .2) (A .target)
+
+      either : (x : ℕ) → choose x t t ≡ t
+      either zero = refl
+      either (suc x) = refl
+
+      gives : (i : ℕ) → i < 3 → chosen (put (record { a = i - 1; b = t; c = t }) i v) ≡ t
+      gives zero h = either v
+      gives (suc zero) h = refl
+      gives (suc (suc zero)) h = refl
+      gives (suc (suc (suc i))) h = absurd (omega arith)
+
+  pub reach-any : OneOf makeup (S .kind) → Reaches S t i v
+  reach-any (inl e) = reach-xor e
+  reach-any (inr (inl e)) = reach-add e
+  reach-any (inr (inr (inl e))) = reach-eq e
+  reach-any (inr (inr (inr e))) = reach-if e
+
+-- ---- the pick from what a set holds and a pair allows
+pub picked-at : {S : Spot} {i t : ℕ} {set : Set} {P Q : ℕ → Type 0} (p : ℕ) (r : Found) → Asked S i t → Solves (at (S .widths) i) P set
+    → ((v : ℕ) → Agrees (at (S .los) i) (at (S .his) i) v → P v → Q v) → ((v : ℕ) → Q v → Agrees (at (S .los) i) (at (S .his) i) v × P v)
+    → Picked (Chosen set (at (S .los) i) (at (S .his) i)) p r → Picked Q p r
+picked-at {S} {i} {t} {set} {P} {Q} p r A s to back =
+    picked-same (Chosen set (at (S .los) i) (at (S .his) i)) Q (λ v m. to v (m .agrees) (s .to v (short v (m .agrees)) (m .has)))
+    (λ v m. let k = back v m in record { agrees = k .0; has = s .back v (short v (k .0)) (k .1) }) p r
+  where
+    short : (v : ℕ) → Agrees (at (S .los) i) (at (S .his) i) v → v < 2 ^ at (S .widths) i
+    short v g = agrees-lt (at (S .widths) i) (A .fair .slots i (A .position) .under) g

@@ -1,0 +1,76 @@
+use mathlib.Core.Path.{_≡_, subst, sym, _∙_, ap}
+use Prim.Native.Nat.{ℕ, _≤_, _-_}
+use native.Mathlib.Omega.{arith}
+use borrow.Author.Needs.{needs}
+use Rattle.words.specs.Pick.{FirstFrom}
+use Rattle.picking.specs.declared.boxes.Box.{Box}
+use Rattle.picking.specs.Boxes.{In, met, countOf, ChosenOf}
+use Rattle.picking.proofs.BoxLaws.{none-yet, one-more}
+use Rattle.picking.proofs.boxes.first_in.Statement.{statement}
+use Rattle.picking.proofs.boxes.first_in.Tie as tie
+
+abbrev Inv-loop : tie.InvT-loop
+Inv-loop set lo hi p n best₀ j₀ best j = (j ≤ n) × (n ≡ countOf set) × FirstFrom (ChosenOf set j lo hi) p best
+
+abbrev μ-loop : tie.MeasureT-loop
+μ-loop set lo hi p n best₀ j₀ best j = n - j
+
+count-requires : tie.Need-count-requires Inv-loop μ-loop
+count-requires c κs = search needs
+
+loop-holds : tie.Need-loop-holds Inv-loop μ-loop
+loop-holds c = (omega arith, c .count .ensures, none-yet (c .before .args .set) _ _ _)
+
+box-of-requires : tie.Need-box-of-requires Inv-loop μ-loop
+box-of-requires c κs = search needs
+
+meet-requires : tie.Need-meet-requires Inv-loop μ-loop
+meet-requires c κs = search needs
+
+first-in-box-requires : tie.Need-first-in-box-requires Inv-loop μ-loop
+first-in-box-requires c κs = search needs
+
+lesser-of-requires : tie.Need-lesser-of-requires Inv-loop μ-loop
+lesser-of-requires c κs = search needs
+
+add-j : tie.Need-add-j Inv-loop μ-loop
+add-j c = omega arith
+
+loop-less : tie.Need-loop-less Inv-loop μ-loop
+loop-less c = omega arith
+
+loop-again : tie.Need-loop-again Inv-loop μ-loop
+loop-again c =
+    let f = c .before in
+    let m = f .before in
+    let l = m .before .before .before in
+    let s = l .before .before in
+    let e : m .meet .result ≡ met _ (s .args .lo) (s .args .hi) = m .meet .ensures ∙ ap (λ (b : Box). met b (s .args .lo) (s .args .hi)) (m .before .box-of .ensures) in (
+      omega arith,
+      l .loop .inv .1,
+      rw (c .lesser-of .ensures) (one-more (s .args .set) (s .args .lo) (s .args .hi) (s .args .p) (l .loop .j) (l .loop .best) (f .first-in-box .result) (l .loop .inv .2) (subst (λ (b : Box). FirstFrom (In b) (s .args .p) (f .first-in-box .result)) e (f .first-in-box .ensures))),
+    )
+
+returns : tie.Need-returns Inv-loop μ-loop
+returns c =
+    let l = c .before in
+    let s = l .before .before in
+    let e : l .loop .j ≡ countOf (s .args .set) = omega (arith, c .loop-test .left, l .loop .inv .1) in
+    subst (λ (n : ℕ). FirstFrom (ChosenOf (s .args .set) n (s .args .lo) (s .args .hi)) (s .args .p) (l .loop .best)) e (l .loop .inv .2)
+
+pub first-in-spec : {M : Type 1} → statement M
+first-in-spec =
+    tie.close
+    (tie.spec
+    Inv-loop
+    μ-loop
+    count-requires
+    loop-holds
+    box-of-requires
+    meet-requires
+    first-in-box-requires
+    lesser-of-requires
+    add-j
+    loop-less
+    loop-again
+    returns)

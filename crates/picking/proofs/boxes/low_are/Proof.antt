@@ -1,0 +1,18 @@
+use mathlib.Core.Path.{_∙_, ap}
+use Prim.Native.Nat.{ℕ}
+use borrow.Author.Needs.{needs}
+use Rattle.picking.specs.Boxes.{word}
+use Rattle.picking.proofs.boxes.low_are.Statement.{statement}
+use Rattle.picking.proofs.boxes.low_are.Tie as tie
+
+set-low-requires : tie.Need-set-low-requires
+set-low-requires c κs = search needs
+
+ternary-requires : tie.Need-ternary-requires
+ternary-requires c κs = search needs
+
+returns : tie.Need-returns
+returns c = c .ternary .ensures ∙ ap (λ (h : ℕ). word (c .before .before .args .c) h) (c .before .set-low .ensures)
+
+pub low-are-spec : {M : Type 1} → statement M
+low-are-spec = tie.close (tie.spec set-low-requires ternary-requires returns)

@@ -1,0 +1,40 @@
+use native.Mathlib.Omega.{arith}
+use mathlib.Core.Path.{_≡_}
+use borrow.Author.Needs.{needs}
+use Rattle.picking.proofs.KindLaws.{two-left}
+use Rattle.picking.proofs.SpotLaws.{place}
+use Rattle.picking.proofs.EssentialLaws.{alone-one}
+use Rattle.picking.proofs.essentials.essential.Statement.{statement}
+use Rattle.picking.proofs.essentials.essential.Tie as tie
+
+essential-alone-requires : tie.Need-essential-alone-requires
+essential-alone-requires c κs = (c .before .pre .fair, c .match .keys1)
+
+essential-of-if-requires : tie.Need-essential-of-if-requires
+essential-of-if-requires c κs = (c .before .pre .fair, c .match .keys2, place (c .before .pre) (c .match .keys2))
+
+essential-of-two-requires : tie.Need-essential-of-two-requires
+essential-of-two-requires c κs = let s = c .before in (s .pre, two-left _ (s .pre .fair .kind-from) (s .pre .fair .kind-below) (c .match .rest))
+
+returns : tie.Need-returns
+returns c =
+    let s = c .before .before in
+    let e : s .args .i ≡ 0 = omega (arith, s .pre .position, alone-one (s .args .s) (s .pre .fair) (c .before .match .keys1)) in
+    rw e (c .essential-alone .ensures)
+
+returns-2 : tie.Need-returns-2
+returns-2 c = search needs
+
+returns-3 : tie.Need-returns-3
+returns-3 c = search needs
+
+pub essential-spec : {M : Type 1} → statement M
+essential-spec =
+    tie.close
+    (tie.spec
+    essential-alone-requires
+    essential-of-if-requires
+    essential-of-two-requires
+    returns
+    returns-2
+    returns-3)

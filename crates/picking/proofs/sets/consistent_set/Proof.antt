@@ -1,0 +1,122 @@
+use native.Mathlib.Omega.{arith}
+use mathlib.Core.Path.{refl, ap, sym}
+use mathlib.Core.Logic.{⊎-elim}
+use Prim.Native.Nat.{ℕ, _-_, _*_, _%_, _^_}
+use native.Mathlib.Nat.{le-of-eq, mul-comm}
+use lib.Bits.{bitAnd, and-comm}
+use borrow.Author.Needs.{needs}
+use Rattle.picking.proofs.SpotLaws.{slot-at, wide-at, place, both-wide, both-other, flag-target, equal-width, joined-at, side-at, count-at, reach-one, reach-two, reach-any, alike-some}
+use Rattle.picking.proofs.BoxLaws.{solves-all}
+use Rattle.picking.proofs.KindLaws.{makeup-left}
+use Rattle.picking.proofs.sets.consistent_set.Statement.{statement}
+use Rattle.picking.proofs.sets.consistent_set.Tie as tie
+
+inverse-set-requires : tie.Need-inverse-set-requires
+inverse-set-requires c κs = search needs
+
+consistent-and-requires : tie.Need-consistent-and-requires
+consistent-and-requires c κs = search needs
+
+consistent-mul-requires : tie.Need-consistent-mul-requires
+consistent-mul-requires c κs = search needs
+
+consistent-shl-requires : tie.Need-consistent-shl-requires
+consistent-shl-requires c κs = (place (c .before .pre) (c .match .keys4), search needs)
+
+consistent-lshr-requires : tie.Need-consistent-lshr-requires
+consistent-lshr-requires c κs = (place (c .before .pre) (c .match .keys5), search needs)
+
+cast-consistent-below : tie.Need-cast-consistent-below
+cast-consistent-below c = record { fits = omega (arith, slot-at (c .before .before .pre .fair) (c .before .match .keys6) 0 (omega arith) .wide) }
+
+consistent-below-requires : tie.Need-consistent-below-requires
+consistent-below-requires c κs =
+    let s = c .before .before in
+    let k = c .before .match .keys6 in
+    (place (s .pre) k, slot-at (s .pre .fair) k 0 (omega arith) .wide, flag-target (s .pre) k refl)
+
+cast-consistent-concat : tie.Need-cast-consistent-concat
+cast-consistent-concat c = record { fits = omega (arith, slot-at (c .before .before .pre .fair) (c .before .match .keys7) 0 (omega arith) .wide) }
+
+cast-consistent-concat-2 : tie.Need-cast-consistent-concat-2
+cast-consistent-concat-2 c =
+    let m = c .before .before in
+    record { fits = omega (arith, slot-at (m .before .pre .fair) (m .match .keys7) 1 (omega arith) .wide) }
+
+consistent-concat-requires : tie.Need-consistent-concat-requires
+consistent-concat-requires c κs = let m = c .before .before in joined-at (m .before .pre) (m .match .keys7)
+
+all-requires : tie.Need-all-requires
+all-requires c κs = search needs
+
+returns : tie.Need-returns
+returns c =
+    let s = c .before .before in
+    reach-one (s .pre) (⊎-elim (count-at (s .pre .fair)) (count-at (s .pre .fair)) (c .before .match .keys1)) (c .inverse-set .ensures)
+
+returns-2 : tie.Need-returns-2
+returns-2 c =
+    let s = c .before .before in
+    let k = c .before .match .keys2 in
+    reach-two (s .pre) k refl (both-wide (s .pre) k refl) (both-other (s .pre) k refl) (alike-some bitAnd and-comm (s .args .i) (c .consistent-and .ensures))
+
+returns-3 : tie.Need-returns-3
+returns-3 c =
+    let s = c .before .before in
+    let k = c .before .match .keys3 in
+    reach-two (s .pre) k refl (both-wide (s .pre) k refl) (both-other (s .pre) k refl) (alike-some (λ x y. (x * y) % 2 ^ s .args .s .width) (λ x y. ap (λ (n : ℕ). n % 2 ^ s .args .s .width) (mul-comm x y)) (s .args .i) (c .consistent-mul .ensures))
+
+returns-4 : tie.Need-returns-4
+returns-4 c =
+    let s = c .before .before in
+    let k = c .before .match .keys4 in
+    reach-two (s .pre) k refl (both-wide (s .pre) k refl) (both-other (s .pre) k refl) (c .consistent-shl .ensures)
+
+returns-5 : tie.Need-returns-5
+returns-5 c =
+    let s = c .before .before in
+    let k = c .before .match .keys5 in
+    reach-two (s .pre) k refl (both-wide (s .pre) k refl) (both-other (s .pre) k refl) (c .consistent-lshr .ensures)
+
+returns-6 : tie.Need-returns-6
+returns-6 c =
+    let s = c .before .before .before in
+    let k = c .before .before .match .keys6 in
+    let e = equal-width (s .pre) k refl in
+    reach-two (s .pre) k refl (le-of-eq (e (s .args .i) (place (s .pre) k))) (e (1 - s .args .i) (omega arith)) (c .consistent-below .ensures)
+
+returns-7 : tie.Need-returns-7
+returns-7 c =
+    let m = c .before .before .before in
+    let s = m .before in
+    let e = side-at (s .args .s) in
+    reach-two (s .pre) (m .match .keys7) refl (le-of-eq (sym (e (s .args .i) (place (s .pre) (m .match .keys7))))) (sym (e (1 - s .args .i) (omega arith))) (c .consistent-concat .ensures)
+
+returns-8 : tie.Need-returns-8
+returns-8 c =
+    let s = c .before .before in
+    solves-all (wide-at (s .pre)) (c .all .ensures) (λ v l. reach-any (s .pre) v l (makeup-left _ (s .pre .fair .kind-from) (s .pre .fair .kind-below) (c .before .match .rest)))
+
+pub consistent-set-spec : {M : Type 1} → statement M
+consistent-set-spec =
+    tie.close
+    (tie.spec
+    inverse-set-requires
+    consistent-and-requires
+    consistent-mul-requires
+    consistent-shl-requires
+    consistent-lshr-requires
+    cast-consistent-below
+    consistent-below-requires
+    cast-consistent-concat
+    cast-consistent-concat-2
+    consistent-concat-requires
+    all-requires
+    returns
+    returns-2
+    returns-3
+    returns-4
+    returns-5
+    returns-6
+    returns-7
+    returns-8)

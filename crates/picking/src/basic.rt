@@ -1,0 +1,98 @@
+// The sets that several operators answer, each named by what is in it.
+use crate::boxes::Set;
+use crate::boxes::between;
+use crate::boxes::low_are;
+use crate::boxes::ternary;
+ghost use mathlib.Core.Path.{_≡_};
+ghost use Prim.Native.Nat.{_%_, _^_, _≤_, _<_};
+ghost use Rattle.words.specs.Agree.{Agrees};
+ghost use Rattle.picking.specs.Boxes.{Solves, Every};
+
+// Every value.
+pub(crate) fn all() -> Set
+    ensures { λ r. ⌜ Solves 64 Every r ⌝ }
+{
+    Set::One(between(0, u64::MAX))
+}
+
+// Every value where x is t, else none.
+pub(crate) fn all_if(x: u64, t: u64) -> Set
+    ensures { λ r. ⌜ Solves 64 (λ v. x ≡ t) r ⌝ }
+{
+    if x != t {
+        return Set::Empty;
+    }
+    all()
+}
+
+// The values from a to b.
+pub(crate) fn range(a: u64, b: u64) -> Set
+    ensures { λ r. ⌜ Solves 64 (λ v. (a ≤ v) × (v ≤ b)) r ⌝ }
+{
+    Set::One(between(a, b))
+}
+
+// The one value c.
+pub(crate) fn only(c: u64) -> Set
+    ensures { λ r. ⌜ Solves 64 (λ v. v ≡ c) r ⌝ }
+{
+    range(c, c)
+}
+
+// The one value c where x is t, else none.
+pub(crate) fn only_if(c: u64, x: u64, t: u64) -> Set
+    ensures { λ r. ⌜ Solves 64 (λ v. (v ≡ c) × (x ≡ t)) r ⌝ }
+{
+    if x != t {
+        return Set::Empty;
+    }
+    only(c)
+}
+
+// The values below s.
+pub(crate) fn below(s: u64) -> Set
+    ensures { λ r. ⌜ Solves 64 (λ v. v < s) r ⌝ }
+{
+    if s == 0 {
+        return Set::Empty;
+    }
+    range(0, s - 1)
+}
+
+// The values above s.
+pub(crate) fn above(s: u64) -> Set
+    ensures { λ r. ⌜ Solves 64 (λ v. s < v) r ⌝ }
+{
+    if s == u64::MAX {
+        return Set::Empty;
+    }
+    range(s + 1, u64::MAX)
+}
+
+// The values other than s.
+pub(crate) fn apart(s: u64) -> Set
+    ensures { λ r. ⌜ Solves 64 (λ v. v ≡ s → ⊥) r ⌝ }
+{
+    if s == 0 {
+        return above(0);
+    }
+    if s == u64::MAX {
+        return below(u64::MAX);
+    }
+    Set::Two(between(0, s - 1), between(s + 1, u64::MAX))
+}
+
+// The values that agree with lo, hi.
+pub(crate) fn agreeing(lo: u64, hi: u64) -> Set
+    ensures { λ r. ⌜ Solves 64 (Agrees lo hi) r ⌝ }
+{
+    Set::One(ternary(lo, hi))
+}
+
+// The values whose n low bits are c.
+pub(crate) fn ending(n: u32, c: u64) -> Set
+    requires { ⌜ (n ≤ 64) × (c < 2 ^ n) ⌝ }
+    ensures { λ r. ⌜ Solves 64 (λ v. v % 2 ^ n ≡ c) r ⌝ }
+{
+    Set::One(low_are(n, c))
+}

@@ -1,0 +1,103 @@
+// Whether a position is essential: no values of the others that agree give t while it keeps its current value.
+use crate::choice::branch;
+use crate::picks::pick_inverse;
+use crate::spot::Spot;
+use crate::spot::at;
+use words::Found;
+ghost use mathlib.Core.Path.{_≡_};
+ghost use mathlib.Core.Logic.{_⊎_};
+ghost use Prim.Native.Nat.{_≤_, _<_};
+ghost use Rattle.words.specs.Decides.{Decides};
+ghost use Rattle.picking.specs.Spot.{positions, Fair, Essential, Asked};
+ghost use Rattle.picking.specs.Asks.{Had};
+
+// The one position of not and extract is essential exactly if its current value does not give t.
+fn essential_alone(s: Spot, t: u64) -> bool
+    requires { ⌜ Fair s × ((s .kind ≡ 2) ⊎ (s .kind ≡ 13)) ⌝ }
+    ensures { λ r. ⌜ Decides (Essential s t 0) r ⌝ }
+{
+    let widths = s.widths;
+    let now = s.current;
+    let op = operators::Op {
+        kind: s.kind,
+        width: s.width,
+        wa: widths.a as u32,
+        wb: 0,
+        low: s.low,
+    };
+    operators::value(op, now.a, 0, 0) != t
+}
+
+// Of two positions one is essential exactly if the other has no inverse value.
+fn essential_of_two(s: Spot, i: u32, t: u64) -> bool
+    requires { ⌜ Asked s i t × (positions s ≡ 2) ⌝ }
+    ensures { λ r. ⌜ Decides (Essential s t i) r ⌝ }
+{
+    let Found::At(_) = pick_inverse(s, 1 - i, t, 0) else {
+        return true;
+    };
+    false
+}
+
+// Whether t can be had from an `if` of which one branch keeps its value: taken, or the other way with a value that agrees.
+fn had(lo: u64, hi: u64, way: u64, kept: u64, l: u64, h: u64, t: u64) -> bool
+    requires { ⌜ way ≤ 1 ⌝ }
+    ensures { λ r. ⌜ Decides (Had lo hi way kept l h t) r ⌝ }
+{
+    (words::agrees(way, lo, hi) & (kept == t))
+        | (words::agrees(1 - way, lo, hi) & words::agrees(t, l, h))
+}
+
+// The condition is essential exactly if t does not agree with the branch that it takes now.
+fn essential_condition(s: Spot, t: u64) -> bool
+    requires { ⌜ Fair s × (s .kind ≡ 11) ⌝ }
+    ensures { λ r. ⌜ Decides (Essential s t 0) r ⌝ }
+{
+    let los = s.los;
+    let his = s.his;
+    let now = s.current;
+    let j = branch(now.a);
+    !words::agrees(t, at(los, j), at(his, j))
+}
+
+// Branch i is taken where the condition is 2 - i; the other branch is 3 - i.
+fn essential_branch(s: Spot, i: u32, t: u64) -> bool
+    requires { ⌜ Fair s × (s .kind ≡ 11) × (1 ≤ i) × (i < 3) ⌝ }
+    ensures { λ r. ⌜ Decides (Essential s t i) r ⌝ }
+{
+    let los = s.los;
+    let his = s.his;
+    let now = s.current;
+    let j = 3 - i;
+    !had(
+        los.a,
+        his.a,
+        (2 - i) as u64,
+        at(now, i),
+        at(los, j),
+        at(his, j),
+        t,
+    )
+}
+
+fn essential_of_if(s: Spot, i: u32, t: u64) -> bool
+    requires { ⌜ Fair s × (s .kind ≡ 11) × (i < 3) ⌝ }
+    ensures { λ r. ⌜ Decides (Essential s t i) r ⌝ }
+{
+    if i == 0 {
+        return essential_condition(s, t);
+    }
+    essential_branch(s, i, t)
+}
+
+pub fn essential(s: Spot, i: u32, t: u64) -> bool
+    requires { ⌜ Asked s i t ⌝ }
+    ensures { λ r. ⌜ Decides (Essential s t i) r ⌝ }
+{
+    let kind = s.kind;
+    match kind {
+        2 | 13 => essential_alone(s, t),
+        11 => essential_of_if(s, i, t),
+        _ => essential_of_two(s, i, t),
+    }
+}

@@ -1,0 +1,37 @@
+// Concat and extract: the values of an operand that give t, and those that do so with some value of the other.
+use crate::basic;
+use crate::boxes::Set;
+ghost use mathlib.Core.Path.{_≡_};
+ghost use Prim.Native.Nat.{_+_, _-_, _*_, _/_, _%_, _^_, _≤_, _<_};
+ghost use Rattle.picking.specs.Boxes.{Solves, Some};
+ghost use Rattle.picking.specs.Asks.{joint, partOf, sideOf, Joined};
+
+// What a or b is, where a above the k bits of b is t.
+fn part(i: u32, k: u32, t: u64) -> u64
+    requires { ⌜ k < 64 ⌝ }
+    ensures { λ r. ⌜ r ≡ partOf i k t ⌝ }
+{
+    if i == 0 { t >> k } else { words::cut(t, k) }
+}
+
+pub(crate) fn inverse_concat(i: u32, wa: u32, wb: u32, s: u64, t: u64) -> Set
+    requires { ⌜ Joined i wa wb t × (s < 2 ^ sideOf (1 - i) wa wb) ⌝ }
+    ensures { λ r. ⌜ Solves (sideOf i wa wb) (λ v. joint i v s .a * 2 ^ wb + joint i v s .b ≡ t) r ⌝ }
+{
+    basic::only_if(part(i, wb, t), part(1 - i, wb, t), s)
+}
+
+pub(crate) fn consistent_concat(i: u32, wa: u32, wb: u32, t: u64) -> Set
+    requires { ⌜ Joined i wa wb t ⌝ }
+    ensures { λ r. ⌜ Solves (sideOf i wa wb) (λ v. Some (sideOf (1 - i) wa wb) (λ s. joint i v s .a * 2 ^ wb + joint i v s .b ≡ t)) r ⌝ }
+{
+    basic::only(part(i, wb, t))
+}
+
+// The w bits from bit k on are t, the others are free.
+pub(crate) fn inverse_extract(w: u32, k: u32, t: u64) -> Set
+    requires { ⌜ (1 ≤ w) × (k + w ≤ 64) × (t < 2 ^ w) ⌝ }
+    ensures { λ r. ⌜ Solves 64 (λ v. v / 2 ^ k % 2 ^ w ≡ t) r ⌝ }
+{
+    basic::agreeing(t << k, !(words::cut(!t, w) << k))
+}

@@ -1,0 +1,19 @@
+// Picking at one node taken out of a problem: inverse and consistent values, and essential positions.
+mod arithmetic;
+mod basic;
+mod bitwise;
+mod boxes;
+mod choice;
+mod comparisons;
+mod essentials;
+mod joining;
+mod picks;
+mod sets;
+mod shifts;
+mod spot;
+
+pub use essentials::essential;
+pub use picks::pick_consistent;
+pub use picks::pick_inverse;
+pub use spot::Spot;
+pub use spot::Three;

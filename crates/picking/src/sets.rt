@@ -1,0 +1,59 @@
+// The inverse and the consistent set of a node's position, without the operand's pair: by kind.
+use crate::arithmetic;
+use crate::basic;
+use crate::bitwise;
+use crate::boxes::Set;
+use crate::choice;
+use crate::comparisons;
+use crate::joining;
+use crate::shifts;
+use crate::spot::Spot;
+use crate::spot::other;
+ghost use mathlib.Core.Path.{_≡_};
+ghost use Rattle.picking.specs.Spot.{at as standing, put, value, Reaches, Asked};
+ghost use Rattle.picking.specs.Boxes.{Solves};
+
+// The values of position i that give t with the others at their current values.
+pub(crate) fn inverse_set(s: Spot, i: u32, t: u64) -> Set
+    requires { ⌜ Asked s i t ⌝ }
+    ensures { λ r. ⌜ Solves (standing (s .widths) i) (λ v. value s (put (s .current) i v) ≡ t) r ⌝ }
+{
+    let kind = s.kind;
+    let w = s.width;
+    let now = s.current;
+    let y = other(now, i);
+    match kind {
+        2 => bitwise::inverse_not(w, t),
+        3 => bitwise::inverse_and(y, t),
+        4 => bitwise::inverse_xor(y, t),
+        5 => arithmetic::inverse_add(w, y, t),
+        6 => arithmetic::inverse_mul(w, y, t),
+        7 => shifts::inverse_shl(i, w, y, t),
+        8 => shifts::inverse_lshr(i, y, t),
+        9 => comparisons::inverse_eq(y, t),
+        10 => comparisons::inverse_below(i, y, t),
+        11 => choice::inverse_if(i, now, t),
+        12 => joining::inverse_concat(i, s.widths.a as u32, s.widths.b as u32, y, t),
+        _ => joining::inverse_extract(w, s.low, t),
+    }
+}
+
+// The values of position i that give t with some values of the others. Where there are no others they are the inverse
+// values; of xor, add, eq and if the others can make up for any value.
+pub(crate) fn consistent_set(s: Spot, i: u32, t: u64) -> Set
+    requires { ⌜ Asked s i t ⌝ }
+    ensures { λ r. ⌜ Solves (standing (s .widths) i) (λ v. Reaches s t i v) r ⌝ }
+{
+    let kind = s.kind;
+    let w = s.width;
+    match kind {
+        2 | 13 => inverse_set(s, i, t),
+        3 => bitwise::consistent_and(w, t),
+        6 => arithmetic::consistent_mul(w, t),
+        7 => shifts::consistent_shl(i, w, t),
+        8 => shifts::consistent_lshr(i, w, t),
+        10 => comparisons::consistent_below(i, s.widths.a as u32, t),
+        12 => joining::consistent_concat(i, s.widths.a as u32, s.widths.b as u32, t),
+        _ => basic::all(),
+    }
+}
