@@ -1,6 +1,6 @@
 // The layout of a problem's bytes: numbers, header, nodes and roots. Each reader is tied to its name in specs/Layout.
 ghost use mathlib.Core.Path.{_≡_};
-ghost use Prim.Native.Nat.{_+_, _*_, _≤_, _<_};
+ghost use Prim.Native.Nat.{_+_, _*_, _≤_};
 ghost use lib.ListN.{length, getD};
 ghost use Rattle.problem.specs.Layout.{le16, le32, le64, version, nodeCount, rootCount, nodeOf, nodeAt, widthAt, rootAt};
 

@@ -1,6 +1,6 @@
--- The six lines of a node, one after the other.
-use mathlib.Core.Path.{refl, ap, _∙_}
-use mathlib.Core.Bool.{not}
+-- 7 to 12: the lines of a node, one after the other.
+use mathlib.Core.Path.{_≡_, refl, ap, _∙_}
+use mathlib.Core.Bool.{Bool, not}
 use mathlib.Core.List.{[]}
 use Rattle.problem.specs.Refusals.{operandAbove, strayField, nodeLines, faultOf}
 use Rattle.operators.specs.declared.table.Shape.{Shape}
@@ -43,6 +43,10 @@ pair-broken-requires c κs = search needs
 line-requires-6 : tie.Need-line-requires-6
 line-requires-6 c κs = search needs
 
+-- a test that the code made of the row it read, as a test of the kind's row
+of-row : (f : Shape → Bool) {x y : Shape} {t : Bool} → t ≡ f x → x ≡ y → t ≡ f y
+of-row f p e = p ∙ ap f e
+
 returns : tie.Need-returns
 unfolding faultOf nodeLines
 returns c =
@@ -58,11 +62,11 @@ returns c =
     let e = p0 .shape-of .ensures in
     let l7 = line-more i [] 7 _ _ _ _ (line-start i) refl (p1 .line .ensures) in
     let l8 = line-more i _ 8 _ _ _ _ l7 refl (p2 .line2 .ensures) in
-    let t9 = p3 .before .operand-above .ensures ∙ ap (λ (x : Shape). operandAbove n (x .operands) i) e in
+    let t9 = of-row (λ x. operandAbove n (x .operands) i) (p3 .before .operand-above .ensures) e in
     let l9 = line-more i _ 9 _ _ _ _ l8 t9 (p3 .line3 .ensures) in
-    let t10 = p4 .before .stray-field .ensures ∙ ap (λ (x : Shape). strayField n (x .fields)) e in
+    let t10 = of-row (λ x. strayField n (x .fields)) (p4 .before .stray-field .ensures) e in
     let l10 = line-more i _ 10 _ _ _ _ l9 t10 (p4 .line4 .ensures) in
-    let t11 = p5 .before .rule-holds .ensures ∙ ap (λ (x : Shape). ruleHolds (x .rule) (n .width) (args .wa) (args .wb) (args .wc) (n .b)) e in
+    let t11 = of-row (λ x. ruleHolds (x .rule) (n .width) (args .wa) (args .wb) (args .wc) (n .b)) (p5 .before .rule-holds .ensures) e in
     let l11 = line-more i _ 11 _ _ _ _ l10 (ap not t11) (p5 .line5 .ensures) in
     line-more i _ 12 _ _ _ _ l11 (c .before .pair-broken .ensures) (c .line6 .ensures)
 

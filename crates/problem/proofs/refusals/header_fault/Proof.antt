@@ -1,4 +1,4 @@
--- The six lines of the header, one after the other.
+-- 1 to 6: the lines of the header, one after the other.
 use mathlib.Core.Path.{refl, ap, ap₂}
 use mathlib.Core.Bool.{not}
 use mathlib.Core.List.{[]}

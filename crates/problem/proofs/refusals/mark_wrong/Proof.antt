@@ -1,4 +1,4 @@
--- Each byte of the mark is compared.
+-- 2: each byte of the mark is compared.
 use Rattle.problem.specs.Refusals.{markWrong}
 use borrow.Author.Needs.{needs}
 use Rattle.problem.proofs.refusals.mark_wrong.Statement.{statement}

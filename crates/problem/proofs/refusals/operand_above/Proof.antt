@@ -1,4 +1,4 @@
--- The code's test is the table's.
+-- 9: the code's test is the table's.
 use mathlib.Core.Path.{refl}
 use Rattle.problem.specs.Refusals.{operandAbove}
 use Rattle.problem.proofs.refusals.operand_above.Statement.{statement}

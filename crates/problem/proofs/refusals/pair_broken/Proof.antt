@@ -1,4 +1,4 @@
--- The code's test is the table's.
+-- 12: the code's test is the table's.
 use Rattle.problem.specs.Refusals.{pairBroken, bitOutside}
 use borrow.Author.Needs.{needs}
 use Rattle.problem.proofs.refusals.pair_broken.Statement.{statement}

@@ -1,4 +1,4 @@
--- The one line of a root.
+-- 13: the one line of a root.
 use mathlib.Core.Path.{_≡_}
 use mathlib.Core.Bool.{not, _||_}
 use mathlib.Core.List.{[]}

@@ -1,4 +1,4 @@
--- The code's test is the table's.
+-- 10: the code's test is the table's.
 use mathlib.Core.Path.{refl}
 use Rattle.problem.specs.Refusals.{strayField}
 use Rattle.problem.proofs.refusals.stray_field.Statement.{statement}
