@@ -3,3 +3,4 @@
 mod checks;
 mod nodes;
 mod offered;
+mod runs;

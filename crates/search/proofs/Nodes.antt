@@ -1,0 +1,156 @@
+-- What the code's readings of a node have to do with the definitions.
+use mathlib.Core.Path.{_≡_, refl, sym, ap, _∙_, subst}
+use mathlib.Core.Bool.{true}
+use mathlib.Core.List.{List, []}
+use Prim.Native.Nat.{ℕ, zero, suc, _+_, _*_, _≤_, _<_}
+use native.Mathlib.Omega.{arith}
+use lib.Dec.{ltb}
+use lib.ListN.{length, getD}
+use borrow.Author.Tests.{ltb-true}
+use Rattle.operators.specs.declared.table.Shape.{Shape}
+use Rattle.operators.specs.Table.{shapeOf}
+use Rattle.operators.specs.Fixed.{pair}
+use Rattle.operators.specs.Ready.{Ternary}
+use Rattle.problem.specs.declared.layout.Node.{Node}
+use Rattle.picking.specs.declared.spot.Three.{Three}
+use Rattle.picking.specs.Spot.{at}
+use Rattle.problem.specs.Layout.{nodeAt, widthAt, rootAt}
+use Rattle.problem.specs.declared.Checked.the-variants.{Accepted}
+use Rattle.problem.specs.Refusals.{checked}
+use Rattle.problem.specs.FactsLaws.{accepted-facts, node-inside}
+use Rattle.search.specs.Problem.{Prob, Pairs, three, problem, count, arg, spotOf, valueOf, evalUp, evaluate, pairAt, fillUp, noPairs, pairs, pairHi}
+use Rattle.search.specs.Good.{Good, GoodNode}
+use Rattle.search.specs.EvalLaws.{length-evalUp, evalUp-lt}
+use Rattle.search.specs.NodeLaws.{value-own, value-constant, value-operator, pair-own, pair-operator, pairIn}
+use Rattle.search.specs.PairLaws.{length-fillUp, fillUp-ternary}
+use Rattle.search.specs.SpotLaws.{spot-ready, spot-pairs-ready}
+use Rattle.search.specs.Inner.{ids, OperandsBelow, heldIn, widthsIn, operatorIn, Operated, gives, Evaluable, Assigned, pairsOf, derives, Narrowed, Fillable, Filled, Moving}
+use Rattle.search.specs.GoodLaws.{good-of}
+
+-- a position that the code's test finds there
+pub there-below :
+    (n : Node) {k : ℕ} {sh : Shape}
+    → OperandsBelow n k
+    → sh ≡ shapeOf (n .kind)
+    → (i : ℕ)
+    → ltb i (sh .operands) ≡ true
+    → at (ids n) i < k
+there-below n {sh = sh} p e i t = p i (rw e at (ltb-true i (sh .operands) t))
+
+-- a position that is neither the first nor the second
+pub at-third : (x : Three) (i : ℕ) → (i ≡ 0 → ⊥) → (i ≡ 1 → ⊥) → x .c ≡ at x i
+at-third x zero n m = absurd (n refl)
+at-third x (suc zero) n m = absurd (m refl)
+at-third x (suc (suc i)) n m = refl
+
+-- ---- node i of an accepted problem
+
+module _ (s vs : List ℕ) (i : ℕ) where
+  -- its operator can be put to work
+  pub operated : Evaluable s vs i → 2 ≤ nodeAt s i .kind → Operated s vs (nodeAt s i)
+  unfolding problem spotOf operatorIn heldIn widthsIn widthAt three
+  operated v k =
+      let g : Good (problem s) = good-of s (v .accepted) in
+      let here : GoodNode (problem s) i = g .node i (v .inside) in
+      record {
+        below = λ j h. omega (arith, here .below j h, v .places, v .inside);
+        ready = spot-ready (problem s) g i (v .inside) k noPairs vs (λ j h. v .narrow (arg (problem s) i j) (here .below j h));
+      }
+
+  -- and what it gives is the node's value
+  pub gives-value : 2 ≤ nodeAt s i .kind → gives s vs (nodeAt s i) ≡ valueOf (problem s) vs i
+  unfolding problem operatorIn heldIn widthsIn widthAt three
+  gives-value k = sym (value-operator (problem s) i vs k)
+
+  pub own-value : nodeAt s i .kind ≡ 0 → getD vs i 0 ≡ valueOf (problem s) vs i
+  unfolding problem
+  own-value k = sym (value-own (problem s) i vs k)
+
+  pub constant-value : nodeAt s i .kind ≡ 1 → nodeAt s i .lo ≡ valueOf (problem s) vs i
+  unfolding problem
+  constant-value k = sym (value-constant (problem s) i vs k)
+
+-- the first i nodes are evaluated
+pub evaluable :
+    (s vs us : List ℕ) (i : ℕ)
+    → Assigned s vs
+    → i < problem s .nodes
+    → us ≡ evalUp (problem s) i vs
+    → Evaluable s us i
+evaluable s vs us i a l e =
+    record {
+      accepted = a .accepted;
+      places = rw (e, length-evalUp (problem s) i vs) (a .places);
+      inside = l;
+      narrow = λ m h. rw e (evalUp-lt (problem s) (good-of s (a .accepted)) vs (a .places) (a .agrees) i (omega arith) m h);
+    }
+
+-- all nodes are
+pub evaluated-all : (P : Prob) (vs us : List ℕ) (i : ℕ) → i ≡ P .nodes → us ≡ evalUp P i vs → us ≡ evaluate P vs
+unfolding evaluate
+evaluated-all P vs us i n e = rw n at e
+
+-- ---- pairs
+
+module _ (s los his : List ℕ) (i : ℕ) where
+  abbrev both : Pairs
+  both = pairsOf los his
+
+  pub own-pair : nodeAt s i .kind < 2 → pair (nodeAt s i .lo) (nodeAt s i .hi) ≡ pairAt (problem s) (pairsOf los his) i
+  unfolding problem
+  own-pair k = sym (pair-own (problem s) i both k)
+
+  pub derives-pair : 2 ≤ nodeAt s i .kind → derives s los his (nodeAt s i) ≡ pairAt (problem s) (pairsOf los his) i
+  unfolding problem operatorIn heldIn widthsIn widthAt three
+  derives-pair k = sym (pair-operator (problem s) i both k)
+
+  -- the operator of node i can be put to work on the pairs below it
+  pub narrowed : Fillable s los his i → 2 ≤ nodeAt s i .kind → Narrowed s los his (nodeAt s i)
+  unfolding problem spotOf operatorIn heldIn widthsIn widthAt three
+  narrowed f k =
+      let P : Prob = problem s in
+      let g : Good P = good-of s (f .accepted) in
+      let here : GoodNode P i = g .node i (f .inside) in
+      let long = length-fillUp P i in
+      let ternary : (j : ℕ) → j < count P i → Ternary (P .width (arg P i j)) (pairIn both (arg P i j)) =
+          λ j b.
+            subst (λ (w : Pairs). Ternary (P .width (arg P i j)) (pairIn w (arg P i j))) (sym (f .so-far))
+            (fillUp-ternary P g i (omega (arith, f .inside)) (arg P i j) (here .below j b)) in
+      record {
+        below-lo = λ j h. omega (arith, here .below j h, f .inside, g .few, ap (λ (w : Pairs). length (w .los)) (f .so-far), long .0);
+        below-hi = λ j h. omega (arith, here .below j h, f .inside, g .few, ap (λ (w : Pairs). length (w .his)) (f .so-far), long .1);
+        ready = spot-pairs-ready P g i (f .inside) k both [] ternary;
+      }
+
+pub filled-all :
+    (s los his : List ℕ) (i : ℕ)
+    → checked s ≡ Accepted
+    → i ≡ problem s .nodes
+    → pairsOf los his ≡ fillUp (problem s) i noPairs
+    → Filled s los his
+unfolding pairs
+filled-all s los his i a n e = record { accepted = a; all = rw n at e }
+
+-- ---- roots
+
+pub root-inside : (s : List ℕ) (j : ℕ) → checked s ≡ Accepted → j < problem s .entries → rootAt s j < problem s .nodes
+unfolding problem
+root-inside s j a h = good-of s a .root-below j h
+
+pub root-hi :
+    (s los his : List ℕ) (j r : ℕ) → Filled s los his → r ≡ rootAt s j → getD his r 0 ≡ pairHi (problem s) (problem s .root j)
+unfolding problem
+root-hi s los his j r f e = ap (λ (w : Pairs). getD (w .his) r 0) (f .all) ∙ ap (pairHi (problem s)) e
+
+-- the 24 bytes of node i are there
+pub node-there : (s : List ℕ) (i : ℕ) → checked s ≡ Accepted → i < problem s .nodes → 9 + 24 * i + 24 ≤ length s
+unfolding problem
+node-there s i a h = node-inside (accepted-facts s a) i h
+
+-- its place among the values, and what stands there
+pub root-place : (s vs : List ℕ) (j r : ℕ) → Moving s vs → j < problem s .entries → r ≡ rootAt s j → r < length vs
+root-place s vs j r m h e = omega (arith, root-inside s j (m .accepted) h, m .held .places)
+
+pub root-value : (s vs : List ℕ) (j r : ℕ) → r ≡ rootAt s j → getD vs r 0 ≡ getD vs (problem s .root j) 0
+unfolding problem
+root-value s vs j r e = ap (λ (i : ℕ). getD vs i 0) e

@@ -1,0 +1,237 @@
+-- What the loops of a walk, a move and a run take from the definitions, at places of the tape.
+use mathlib.Core.Path.{_≡_, refl, sym, ap, _∙_, subst}
+use mathlib.Core.List.{List, [], _∷_, _++_}
+use Prim.Native.Nat.{ℕ, zero, suc, _+_, _*_, _-_, _%_, _≤_, _<_}
+use native.Mathlib.Omega.{arith}
+use native.Mathlib.Nat.{not-suc-le-zero, add-zero, mod-lt}
+use native.Mathlib.Numerals.{add-one}
+use native.Mathlib.Decide.{ℕ-discrete}
+use lib.ListN.{length, getD, drop, length-drop, length-append, List·getD-append}
+use lib.Seq.{getD-drop, drop-drop, getD-append-seam}
+use Rattle.words.specs.declared.found.Found.{Found}
+use Rattle.words.specs.declared.found.Found.the-variants.{At, Nothing}
+use Rattle.words.specs.Agree.{agrees-lt}
+use Rattle.operators.specs.Table.{shapeOf}
+use Rattle.problem.specs.declared.layout.Node.{Node}
+use Rattle.problem.specs.Layout.{nodeAt, widthAt, rootAt}
+use Rattle.picking.specs.declared.spot.Spot.{Spot}
+use Rattle.picking.specs.Spot.{at, positions}
+use Rattle.search.specs.Problem.{Prob, Pairs, problem, three, count, arg, Variable, spotOf, spot, pairs}
+use Rattle.search.specs.Step.{Lists, Lists.done, Lists.keep, Lists.skip, Out, goes, blocked, Step}
+use Rattle.search.specs.Run.{End, sets, stuck, short, Walk, Walk.arrives, Walk.unserved, Walk.stops, Walk.onward, Unsatisfied, AllOne, Move, Move.no-word, Move.from-root}
+use Rattle.search.specs.Good.{Good}
+use Rattle.search.specs.GoodLaws.{good-of}
+use Rattle.search.specs.NodeLaws.{operand-node}
+use Rattle.search.specs.PairLaws.{length-fillUp, pairs-ternary}
+use Rattle.search.specs.SpotLaws.{spot-fair}
+use Rattle.search.specs.Decide.{Stands, lists-find, lists-member}
+use Rattle.search.specs.Determined.{lists-unique}
+use Rattle.search.specs.MoveLaws.{Aimed, Next, step-next, root-aimed}
+use Rattle.search.specs.Inner.{ids, OperandsBelow, heldIn, widthsIn, Filled, pairsOf, Spotted, spotIn, outOf, Stepping, Searching, Walking, Count, Nth}
+
+-- ---- the tape, by places
+
+module _ (tape : List ℕ) (k : ℕ) where
+  first-word : getD (drop k tape) 0 0 ≡ getD tape k 0
+  first-word = getD-drop k tape 0 0 ∙ ap (λ (i : ℕ). getD tape i 0) (add-zero k)
+
+  second-word : getD (drop k tape) 1 0 ≡ getD tape (k + 1) 0
+  second-word = getD-drop k tape 1 0
+
+  left : length (drop k tape) ≡ length tape - k
+  left = length-drop k tape
+
+-- ---- a node as a step sees it
+
+-- variables and constants have no positions
+inner-kind : (k : ℕ) → 0 < shapeOf k .operands → 2 ≤ k
+inner-kind zero h = absurd (not-suc-le-zero h)
+inner-kind (suc zero) h = absurd (not-suc-le-zero h)
+inner-kind (suc (suc k)) h = omega arith
+
+module _ (s los his vs : List ℕ) (n : ℕ) where
+  spot-is : Filled s los his → spotIn s los his vs (nodeAt s n) ≡ spot (problem s) vs n
+  unfolding spotIn spotOf problem heldIn widthsIn widthAt three
+  spot-is f = ap (λ (w : Pairs). spotOf (problem s) w vs n) (f .all)
+
+  module _ (W : Searching s los his vs) (l : n < problem s .nodes) where
+    good : Good (problem s)
+    good = good-of s (W .filled .accepted)
+
+    pub spotted : Spotted los his vs (nodeAt s n)
+    unfolding problem pairs
+    spotted =
+        let long = length-fillUp (problem s) (problem s .nodes) in
+        let below : OperandsBelow (nodeAt s n) (problem s .nodes) = λ i h. operand-node (problem s) good n l i h in
+        record {
+          below-lo = λ i h. omega (arith, below i h, good .few, ap (λ (w : Pairs). length (w .los)) (W .filled .all), long .0);
+          below-hi = λ i h. omega (arith, below i h, good .few, ap (λ (w : Pairs). length (w .his)) (W .filled .all), long .1);
+          below = λ i h. omega (arith, below i h, W .held .places);
+        }
+
+    pub stepping : (t : ℕ) → Aimed (problem s) n t → Stepping (spot (problem s) vs n) t
+    unfolding spotOf
+    stepping t a =
+        record {
+          fair = λ h. spot-fair (problem s) good vs (W .held) n l (inner-kind (problem s .kind n) h);
+          target = agrees-lt (problem s .width n) (pairs-ternary (problem s) good n l .short) a;
+        }
+
+-- ---- a walk
+
+-- where the loop of a walk is: at node n with target t, at a place of the tape, with so many steps made; and what a walk
+-- from there comes to, the whole walk comes to
+pub record On (s vs tape : List ℕ) (from start made n t k steps : ℕ) : Type 0 where
+  pub node : n < problem s .nodes
+  pub aimed : Aimed (problem s) n t
+  pub on-tape : k ≤ length tape
+  pub few : steps ≤ k
+  pub words : k + 2 * made ≡ start + 2 * steps
+  pub onto : (r : End) → Walk (problem s) vs n t (drop k tape) steps r → Walk (problem s) vs from 1 (drop start tape) made r
+
+pub on-start :
+    {s los his vs tape : List ℕ} {from start made : ℕ}
+    → Walking s los his vs tape from start made
+    → On s vs tape from start made from 1 start made
+on-start w = record { node = w .node; aimed = w .aimed; on-tape = w .on-tape; few = w .made-le; words = refl; onto = λ r x. x }
+
+module _ {s vs tape : List ℕ} {from start made n t k steps : ℕ} (o : On s vs tape from start made n t k steps) {d : Node} (e : d ≡ nodeAt s n) where
+  pub walk-arrives : d .kind ≡ 0 → Walk (problem s) vs from 1 (drop start tape) made (sets n t steps (drop k tape))
+  unfolding problem
+  walk-arrives z = o .onto _ (arrives (rw e at z))
+
+  pub stepping-in : {los his : List ℕ} {S : Spot} → Searching s los his vs → S ≡ spotIn s los his vs d → Stepping S t
+  stepping-in {los} {his} W q = rw (q, e, spot-is s los his vs n (W .filled)) (stepping s los his vs n W (o .node) t (o .aimed))
+
+  module _ (x : d .kind ≡ 0 → ⊥) where
+    no-variable : Variable (problem s) n → ⊥
+    unfolding problem
+    no-variable z = x (ap (λ (d : Node). d .kind) e ∙ z)
+
+    pub walk-short : length tape - k < 2 → Walk (problem s) vs from 1 (drop start tape) made short
+    walk-short h = o .onto _ (unserved {ws = drop k tape} no-variable (omega (arith, left tape k)))
+
+    -- the step that the code makes, which picks at position i what it found
+    module _ {los his : List ℕ} (W : Searching s los his vs) {S : Spot} (q : S ≡ spotIn s los his vs d) (i : ℕ) (found : Found)
+      (st : Step S t (getD tape k 0) (getD tape (k + 1) 0) (outOf i found)) (h : k + 2 ≤ length tape) where
+      made-step : {p : Out} → outOf i found ≡ p → Step (spot (problem s) vs n) t (getD (drop k tape) 0 0) (getD (drop k tape) 1 0) p
+      made-step z = rw (first-word tape k, second-word tape k, ← z, ← spot-is s los his vs n (W .filled), ← e, ← q) st
+
+      pub walk-stuck : found ≡ Nothing → Walk (problem s) vs from 1 (drop start tape) made (stuck (steps + 1) (drop (k + 2) tape))
+      walk-stuck z =
+          o .onto _
+          (subst (λ (l : List ℕ). Walk (problem s) vs n t (drop k tape) steps (stuck (steps + 1) l)) (drop-drop 2 k tape)
+            (stops {ws = drop k tape} no-variable (omega (arith, left tape k)) (made-step (ap (outOf i) z))))
+
+      module _ {v m : ℕ} (z : found ≡ At v) (a : m ≡ at (ids d) i) where
+        is-arg : m ≡ arg (problem s) n i
+        unfolding problem
+        is-arg = rw e at a
+
+        goes-on : Step (spot (problem s) vs n) t (getD (drop k tape) 0 0) (getD (drop k tape) 1 0) (goes i v)
+        goes-on = made-step (ap (outOf i) z)
+
+        next : Next (problem s) (good-of s (W .filled .accepted)) n i v
+        next = step-next (problem s) (good-of s (W .filled .accepted)) vs (o .node) goes-on
+
+        pub walk-below : m < n
+        walk-below = rw is-arg (next .below)
+
+        pub walk-on : On s vs tape from start made m v (k + 2) (steps + 1)
+        walk-on =
+            record {
+              node = omega (arith, walk-below, o .node);
+              aimed = rw is-arg (next .aimed);
+              on-tape = h;
+              few = omega (arith, o .few);
+              words = omega (arith, o .words);
+              onto =
+                  λ r w.
+                  o .onto r
+                  (onward {ws = drop k tape} no-variable (omega (arith, left tape k)) goes-on
+                    (subst (λ (l : List ℕ). Walk (problem s) vs (arg (problem s) n i) v l (steps + 1) r) (sym (drop-drop 2 k tape))
+                      (rw is-arg at w)));
+            }
+
+-- ---- counts
+
+module _ (A : ℕ → Type 0) where
+  pub count-none : Count A 0 0
+  count-none = record { list = []; lists = done; is = refl }
+
+  pub count-keep : {j c : ℕ} → Count A j c → A j → Count A (j + 1) (c + 1)
+  count-keep {j} r a =
+      record {
+        list = r .list ++ (j ∷ []);
+        lists = rw (add-one j) (keep (r .lists) a);
+        is = length-append (r .list) (j ∷ []) ∙ ap (λ (i : ℕ). i + 1) (r .is);
+      }
+
+  pub count-skip : {j c : ℕ} → Count A j c → (A j → ⊥) → Count A (j + 1) c
+  count-skip {j} r x = record { list = r .list; lists = rw (add-one j) (skip (r .lists) x); is = r .is }
+
+  -- two counts of one set are equal
+  pub count-unique : {n m c d : ℕ} → n ≡ m → Count A n c → Count A m d → c ≡ d
+  count-unique e r q = sym (r .is) ∙ ap length (lists-unique (rw e at (r .lists)) (q .lists)) ∙ q .is
+
+-- the k-th member stands at k in the list
+nth-at :
+    {A : ℕ → Type 0} {n : ℕ} {us : List ℕ} (k j : ℕ) → Count A j k → A j → Lists A n us → j < n → (k < length us) × (getD us k 0 ≡ j)
+nth-at k j m b done h = absurd (not-suc-le-zero h)
+nth-at {A} k j m b (keep {n} {l} r a) h =
+    elim (ℕ-discrete j n)
+    [ yes e ↦
+        let q : length l ≡ k = ap length (lists-unique (subst (λ (i : ℕ). Lists A i l) (sym e) r) (m .lists)) ∙ m .is in
+        (simp length-append (omega arith), ap (λ (i : ℕ). getD (l ++ (n ∷ [])) i 0) (sym q) ∙ getD-append-seam l n [] 0 ∙ sym e)
+    | no x ↦
+        let w : (k < length l) × (getD l k 0 ≡ j) = nth-at k j m b r (omega arith) in
+        (simp length-append (omega arith), List·getD-append l (n ∷ []) 0 k (w .0) ∙ w .1) ]
+nth-at {A} k j m b (skip {n} {l} r x) h = nth-at k j m b r (let ne : j ≡ n → ⊥ = λ e. x (subst A e b) in omega arith)
+
+-- ---- a move
+
+module _ (P : Prob) (vs : List ℕ) where
+  pub no-more : Count (Unsatisfied P vs) (P .entries) 0 → AllOne P vs
+  no-more c j l =
+      elim (ℕ-discrete (getD vs (P .root j) 0) 1)
+      [ yes e ↦ e
+      | no x ↦ absurd (let st : Stands j (c .list) = lists-find j (c .lists) l x in omega (arith, st .place-lt, c .is)) ]
+
+  pub some-left : {u : ℕ} → 0 < u → Count (Unsatisfied P vs) (P .entries) u → AllOne P vs → ⊥
+  some-left h c y =
+      let m = lists-member (c .lists) 0 (omega (arith, c .is)) in
+      m .holds (y (getD (c .list) 0 0) (m .below))
+
+  module _ (tape : List ℕ) (k s : ℕ) where
+    pub move-short : length tape ≤ k → Move P vs (drop k tape) s short
+    move-short h = no-word (omega (arith, left tape k))
+
+    pub move-root :
+        {u j : ℕ} {r : End}
+        → k < length tape
+        → Count (Unsatisfied P vs) (P .entries) u
+        → Nth (Unsatisfied P vs) (P .entries) (getD tape k 0 % u) j
+        → Walk P vs (P .root j) 1 (drop (k + 1) tape) s r
+        → Move P vs (drop k tape) s r
+    move-root {u} {j} {r} h c m w =
+        let q : getD (c .list) (getD tape k 0 % u) 0 ≡ j = nth-at (getD tape k 0 % u) j (m .before) (m .member) (c .lists) (m .inside) .1 in
+        from-root {r = r} (c .list) (omega (arith, left tape k)) (c .lists) (rw (first-word tape k, c .is, q, drop-drop 1 k tape) w)
+
+-- the walk that a move makes, from root entry j
+module _ {s los his vs : List ℕ} (tape : List ℕ) (k : ℕ) {u made j r : ℕ} (W : Searching s los his vs) (c : Count (Unsatisfied (problem s) vs) (problem s .entries) u)
+  (m : Nth (Unsatisfied (problem s) vs) (problem s .entries) (getD tape k 0 % u) j) (e : r ≡ rootAt s j) (h : k < length tape) where
+  pub move-walking : made ≤ k → Walking s los his vs tape r (k + 1) made
+  unfolding problem
+  move-walking l =
+      let g : Good (problem s) = good-of s (W .filled .accepted) in
+      record {
+        searching = W;
+        node = rw e (g .root-below j (m .inside));
+        aimed = rw e (root-aimed (problem s) g (W .open-roots) j (m .inside));
+        on-tape = omega arith;
+        made-le = omega arith;
+      }
+
+  pub move-made : {d : End} → Walk (problem s) vs r 1 (drop (k + 1) tape) made d → Move (problem s) vs (drop k tape) made d
+  unfolding problem
+  move-made w = move-root (problem s) vs tape k made h c m (rw e at w)

@@ -1,0 +1,28 @@
+use mathlib.Core.Path.{_≡_, refl}
+use mathlib.Core.List.{[]}
+use Rattle.problem.specs.FactsLaws.{accepted-facts, node-inside}
+use Rattle.problem.specs.FirstLaws.{line-start, line-more}
+use Rattle.search.specs.Call.{startFault, disagrees}
+use borrow.Author.Needs.{needs}
+use Rattle.search.proofs.starts.start_fault.Statement.{statement}
+use Rattle.search.proofs.starts.start_fault.Tie as tie
+
+node-at-requires : tie.Need-node-at-requires
+node-at-requires c κs = node-inside (accepted-facts _ (c .before .before .pre .0 .accepted)) _ (c .before .before .pre .1)
+
+mul-v : tie.Need-mul-v
+mul-v c = search needs
+
+shared-slice-read-v : tie.Need-shared-slice-read-v
+shared-slice-read-v c = search needs
+
+line-requires : tie.Need-line-requires
+line-requires c κs = search needs
+
+returns : tie.Need-returns
+unfolding startFault disagrees
+returns c = rw (← c .before .before .before .before .before .before .node-at .ensures) (line-more _ [] 15 _ _ _ _ (line-start _) refl (c .line .ensures))
+
+pub start-fault-spec : {M : Type 1} → statement M
+start-fault-spec =
+    tie.close (tie.spec node-at-requires mul-v shared-slice-read-v line-requires returns)

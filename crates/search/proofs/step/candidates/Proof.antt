@@ -1,0 +1,79 @@
+use mathlib.Core.Path.{_≡_, ap}
+use Prim.Native.Nat.{_≤_, _-_}
+use native.Mathlib.Omega.{arith}
+use borrow.Author.Needs.{needs}
+use Rattle.operators.specs.declared.table.Shape.{Shape}
+use Rattle.picking.specs.Spot.{positions}
+use Rattle.search.proofs.Steps.{room-two, Sorted, sorted-none, sorted-more, all-essential, all-open}
+use borrow.Author.Needs.{needs}
+use borrow.Author.Needs.{needs}
+use borrow.Author.Needs.{needs}
+use borrow.Author.Needs.{needs}
+use Rattle.search.proofs.step.candidates.Statement.{statement}
+use Rattle.search.proofs.step.candidates.Tie as tie
+
+abbrev Inv-loop : tie.InvT-loop
+Inv-loop s t n any₀ essentials₀ opens₀ i₀ any essentials opens i = (n ≡ positions s) × (i ≤ n) × Sorted s t i any essentials opens
+
+abbrev μ-loop : tie.MeasureT-loop
+μ-loop s t n any₀ essentials₀ opens₀ i₀ any essentials opens i = n - i
+
+shape-of-requires : tie.Need-shape-of-requires Inv-loop μ-loop
+shape-of-requires c κs = search needs
+
+cast-n : tie.Need-cast-n Inv-loop μ-loop
+cast-n c = search needs
+
+loop-holds : tie.Need-loop-holds Inv-loop μ-loop
+loop-holds c = (ap (λ (x : Shape). x .operands) (c .before .shape-of .ensures), omega arith, sorted-none _ _)
+
+essential-requires : tie.Need-essential-requires Inv-loop μ-loop
+essential-requires c κs =     let st = c .before .before .before .before in
+    record { fair = st .pre .fair (omega arith); position = omega arith; target = st .pre .target }
+
+open-at-requires : tie.Need-open-at-requires Inv-loop μ-loop
+open-at-requires c κs = search needs
+
+kept-requires : tie.Need-kept-requires Inv-loop μ-loop
+kept-requires c κs = room-two (c .before .before .before .before .before .before .args .s) (c .before .before .before .loop .inv .2 .room-es) (omega arith)
+
+kept-requires-2 : tie.Need-kept-requires-2 Inv-loop μ-loop
+kept-requires-2 c κs = room-two (c .before .before .before .before .before .before .before .args .s) (c .before .before .before .before .loop .inv .2 .room-os) (omega arith)
+
+add-i : tie.Need-add-i Inv-loop μ-loop
+add-i c = search needs
+
+loop-less : tie.Need-loop-less Inv-loop μ-loop
+loop-less c = search needs
+
+loop-again : tie.Need-loop-again Inv-loop μ-loop
+loop-again c =     let st = c .before .before .before .before .before in
+    ( st .loop .inv .0
+    , omega arith
+    , sorted-more _ _ _ _ _ _ (st .loop .inv .2) (c .before .before .before .essential .ensures) (c .before .before .open-at .ensures)
+      (c .before .kept .ensures) (c .kept2 .ensures) )
+
+returns : tie.Need-returns Inv-loop μ-loop
+returns c = all-essential _ _ _ _ _ _ (c .before .before .loop .inv .2) (omega arith) (c .if1 .taken)
+
+returns-2 : tie.Need-returns-2 Inv-loop μ-loop
+returns-2 c = all-open _ _ _ _ _ _ (c .before .before .loop .inv .2) (omega arith) (c .if1 .left)
+
+pub candidates-spec : {M : Type 1} → statement M
+candidates-spec =
+    tie.close
+    (tie.spec
+    Inv-loop
+    μ-loop
+    shape-of-requires
+    cast-n
+    loop-holds
+    essential-requires
+    open-at-requires
+    kept-requires
+    kept-requires-2
+    add-i
+    loop-less
+    loop-again
+    returns
+    returns-2)

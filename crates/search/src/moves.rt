@@ -1,0 +1,124 @@
+// Moves: from an unsatisfied root entry down to a variable, step by step.
+ghost use mathlib.Core.Path.{_≡_};
+ghost use Prim.Native.Nat.{_+_, _<_, _≤_};
+ghost use lib.ListN.{drop, getD, length};
+ghost use Rattle.search.specs.Problem.{problem};
+ghost use Rattle.search.specs.Run.{Walk, Move, Unsatisfied};
+ghost use Rattle.search.specs.Inner.{Searching, Walking, Moving, endOf, Placed, Count, Nth};
+
+use crate::operands::operand;
+use crate::spot::spot_of;
+use crate::step::step;
+use problem::node_at;
+use problem::root_at;
+use problem::root_count;
+use words::Found;
+
+// How a move ends: a variable, the value that it takes, the steps made so far in the run, the next place on the tape; or
+// blocked, with these two; or the tape cannot serve a draw whole.
+pub(crate) enum Stop {
+    Sets(u16, u64, u64, usize),
+    Stuck(u64, usize),
+    Short,
+}
+
+// Down from a node whose target is 1, with the words from a place of the tape on.
+fn walk(
+    bytes: &[u8],
+    los: &[u64; 1024],
+    his: &[u64; 1024],
+    values: &[u64],
+    tape: &[u64],
+    from: u16,
+    start: usize,
+    made: u64,
+) -> Stop
+    requires { ⌜ Walking (now bytes) (now los) (now his) (now values) (now tape) from start made ⌝ }
+    ensures { λ r. ⌜ Walk (problem (now (bytes .entry))) (now (values .entry)) from 1 (drop start (now (tape .entry))) made (endOf (now (tape .entry)) r)
+        × Placed (length (now (tape .entry))) start made r ⌝ }
+{
+    let mut n = from;
+    let mut t: u64 = 1;
+    let mut at = start;
+    let mut steps = made;
+    loop {
+        let node = node_at(bytes, n);
+        if node.kind == 0 {
+            return Stop::Sets(n, t, steps, at);
+        }
+        if tape.len() - at < 2 {
+            return Stop::Short;
+        }
+        let spot = spot_of(bytes, los, his, values, node);
+        let way = step(spot, t, tape[at], tape[at + 1]);
+        let found = way.found;
+        at += 2;
+        steps += 1;
+        let Found::At(v) = found else {
+            return Stop::Stuck(steps, at);
+        };
+        n = operand(node, way.position);
+        t = v;
+    }
+}
+
+// How many root entries are not satisfied.
+pub(crate) fn count_unsatisfied(bytes: &[u8], values: &[u64]) -> u64
+    requires { ⌜ Moving (now bytes) (now values) ⌝ }
+    ensures { λ r. ⌜ Count (Unsatisfied (problem (now (bytes .entry))) (now (values .entry))) (problem (now (bytes .entry)) .entries) r ⌝ }
+{
+    let n = root_count(bytes);
+    let mut count: u64 = 0;
+    let mut j: u16 = 0;
+    while j < n {
+        if values[root_at(bytes, j) as usize] != 1 {
+            count += 1;
+        }
+        j += 1;
+    }
+    count
+}
+
+// The root entry that is not satisfied and has k such before it.
+fn nth_unsatisfied(bytes: &[u8], values: &[u64], count: u64, k: u64) -> u16
+    requires { ⌜ Moving (now bytes) (now values) × Count (Unsatisfied (problem (now bytes)) (now values)) (problem (now bytes) .entries) count × (k < count) ⌝ }
+    ensures { λ r. ⌜ Nth (Unsatisfied (problem (now (bytes .entry))) (now (values .entry))) (problem (now (bytes .entry)) .entries) k r ⌝ }
+{
+    let n = root_count(bytes);
+    let mut before: u64 = 0;
+    let mut j: u16 = 0;
+    while j < n {
+        if values[root_at(bytes, j) as usize] != 1 {
+            if before == k {
+                return j;
+            }
+            before += 1;
+        }
+        j += 1;
+    }
+    0
+}
+
+// "A move reads one word, modulo the number of unsatisfied root entries, to take one of them in file order; its target is 1."
+pub(crate) fn make_move(
+    bytes: &[u8],
+    los: &[u64; 1024],
+    his: &[u64; 1024],
+    values: &[u64],
+    tape: &[u64],
+    count: u64,
+    at: usize,
+    made: u64,
+) -> Stop
+    requires { ⌜ Searching (now bytes) (now los) (now his) (now values) × Count (Unsatisfied (problem (now bytes)) (now values)) (problem (now bytes) .entries) count
+        × (0 < count) × (at ≤ length (now tape)) × (made ≤ at) ⌝ }
+    ensures { λ r. ⌜ Move (problem (now (bytes .entry))) (now (values .entry)) (drop at (now (tape .entry))) made (endOf (now (tape .entry)) r)
+        × Placed (length (now (tape .entry))) (at + 1) made r ⌝ }
+{
+    if tape.len() <= at {
+        return Stop::Short;
+    }
+    let k = tape[at] % count;
+    let j = nth_unsatisfied(bytes, values, count, k);
+    walk(bytes, los, his, values, tape, root_at(bytes, j), at + 1, made)
+}

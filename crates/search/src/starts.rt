@@ -1,0 +1,55 @@
+// Refusals of a call: 1 to 13 by the problem check, then 14 and 15.
+ghost use mathlib.Core.Path.{_≡_};
+ghost use Prim.Native.Nat.{_≤_, _<_};
+ghost use lib.ListN.{length};
+ghost use Rattle.problem.specs.declared.Checked.the-variants.{Accepted};
+ghost use Rattle.problem.specs.Layout.{nodeCount};
+ghost use Rattle.problem.specs.Refusals.{checked, firstBelow};
+ghost use Rattle.search.specs.Call.{startFault, refusals};
+ghost use Rattle.search.specs.Inner.{Lent};
+
+use problem::Checked;
+use problem::check;
+use problem::line;
+use problem::node_at;
+use problem::node_count;
+
+// 15, of node i: it is a variable, and its start does not agree with its pair.
+fn start_fault(bytes: &[u8], values: &[u64], i: u16) -> Checked
+    requires { ⌜ Lent (now bytes) (now values) × (i < nodeCount (now bytes)) ⌝ }
+    ensures { λ r. ⌜ r ≡ startFault (now (bytes .entry)) (now (values .entry)) i ⌝ }
+{
+    let n = node_at(bytes, i);
+    let v = values[i as usize];
+    let disagrees = ((n.lo & v) != n.lo) | ((v & n.hi) != v);
+    line(Checked::Accepted, 15, (n.kind == 0) & disagrees, i)
+}
+
+// 15, by ascending id.
+fn starts_fault(bytes: &[u8], values: &[u64]) -> Checked
+    requires { ⌜ Lent (now bytes) (now values) ⌝ }
+    ensures { λ r. ⌜ r ≡ firstBelow (startFault (now (bytes .entry)) (now (values .entry))) (nodeCount (now (bytes .entry))) ⌝ }
+{
+    let n = node_count(bytes);
+    let mut i: u16 = 0;
+    while i < n {
+        let found = start_fault(bytes, values, i);
+        let Checked::Accepted = found else {
+            return found;
+        };
+        i += 1;
+    }
+    Checked::Accepted
+}
+
+// The first refusal of a call, or that there is none.
+pub(crate) fn refusal_of(bytes: &[u8], values: &[u64]) -> Checked
+    ensures { λ r. ⌜ r ≡ refusals (now (bytes .entry)) (now (values .entry)) ⌝ }
+{
+    let short = values.len() < node_count(bytes) as usize;
+    let found = line(check(bytes), 14, short, 0);
+    let Checked::Accepted = found else {
+        return found;
+    };
+    starts_fault(bytes, values)
+}
