@@ -1,7 +1,7 @@
 -- Add and mul: what solves their equations.
 use mathlib.Core.Path.{_≡_, refl, sym, ap, _∙_}
-use Prim.Native.Nat.{ℕ, suc, _+_, _-_, _*_, _/_, _%_, _^_, _≤_, _<_}
-use native.Mathlib.Nat.{lt-of-lt-of-le, mod-lt, mod-eq-of-lt, mod-mod, mod-self, div-self, zero-div, pos-of-ne-zero}
+use Prim.Native.Nat.{ℕ, suc, _+_, _-_, _*_, _/_, _%_, _^_, _<_}
+use native.Mathlib.Nat.{add-comm, mul-comm, lt-of-lt-of-le, mod-lt, mod-eq-of-lt, mod-mod, mod-self, div-self, zero-div, pos-of-ne-zero}
 use native.Mathlib.Numerals.{add-one}
 use native.Mathlib.Omega.{arith}
 use lib.Bits.{and-comm, and-mask}
@@ -18,6 +18,13 @@ use Rattle.picking.specs.declared.boxes.Set.the-variants.{Low}
 use Rattle.picking.specs.Boxes.{Has, Solves, Every, Some}
 use Rattle.picking.specs.Asks.{Sized}
 use Rattle.picking.proofs.BoxLaws.{solves-by, solves-all, in-word}
+
+-- ---- sums and products do not mind the order
+pub sum-comm : (w x y : ℕ) → (x + y) % 2 ^ w ≡ (y + x) % 2 ^ w
+sum-comm w x y = ap (λ (n : ℕ). n % 2 ^ w) (add-comm x y)
+
+pub product-comm : (w x y : ℕ) → (x * y) % 2 ^ w ≡ (y * x) % 2 ^ w
+product-comm w x y = ap (λ (n : ℕ). n % 2 ^ w) (mul-comm x y)
 
 -- ---- add: the difference, cut
 pub add-by : {w t c : ℕ} {r : Set} (s d : ℕ) → Sized w t → (d + s) % 2 ^ 64 ≡ t → c ≡ d % 2 ^ w → Solves 64 (λ v. v ≡ c) r → Solves w (λ v. (v + s) % 2 ^ w ≡ t) r
@@ -70,7 +77,7 @@ agrees-bit j v g = one (v / 2 ^ j) (rw (div-self (pow-pos j)) at (within-div j (
     one x h = sym (and-mask x 1) ∙ and-comm x 1 ∙ h .is
 
 -- a bit below n is a bit of the n low ones
-pub bit-kept : (v n j : ℕ) → j < n → v % 2 ^ n / 2 ^ j % 2 ≡ v / 2 ^ j % 2
+bit-kept : (v n j : ℕ) → j < n → v % 2 ^ n / 2 ^ j % 2 ≡ v / 2 ^ j % 2
 unfolding bit
 bit-kept v n j l = bit-cut j v n l
 

@@ -4,7 +4,7 @@ use mathlib.Core.Logic.{⊎-elim}
 use Prim.Native.Nat.{ℕ, _+_, _-_, _%_, _^_, _≤_, _<_, min, max, zero-le}
 use native.Mathlib.Nat.{le-refl, le-trans, le-of-eq, lt-of-lt-of-le}
 use native.Mathlib.Omega.{arith}
-use lib.Bits.{bitAnd, bitOr, bitXor, xor-lt, xor-comm}
+use lib.Bits.{bitAnd, bitOr, bitXor}
 use lib.Pow.{pow-mono, not-mod}
 use Rattle.words.specs.Bits.{bit, bit-lt, bit-ext, bit-high, bit-not, bit-and, bit-or, bit-xor, lt-or-ge}
 use Rattle.words.specs.Agree.{Agrees, within-of-bits, within-ones, bits-of-within}

@@ -4,7 +4,7 @@ use mathlib.Core.Logic.{_⊎_, inl, inr}
 use Prim.Native.Nat.{ℕ, zero, suc, _+_, _-_, _*_, _/_, _%_, _^_, _≤_, _<_, zero-le}
 use native.Mathlib.Nat.{le-refl, le-antisymm, lt-of-lt-of-le, not-suc-le-zero, mod-eq-of-lt, eq-or-lt-of-le, zero-div}
 use native.Mathlib.Omega.{arith}
-use lib.Bits.{bitAnd, bitOr}
+use lib.Bits.{bitAnd}
 use lib.Pow.{pow-mono, le-ones, shr-lt}
 use Rattle.words.specs.declared.found.Found.{Found}
 use Rattle.words.specs.Bits.{lt-or-ge}
@@ -15,7 +15,7 @@ use Rattle.words.specs.Pick.{Empty as NoMember, FirstFrom, NoneFrom, Picked, fi
 use Rattle.picking.specs.declared.boxes.Box.{Box}
 use Rattle.picking.specs.declared.boxes.Set.{Set}
 use Rattle.picking.specs.declared.boxes.Set.the-variants.{Empty, One, Two, Low, Left, Right}
-use Rattle.picking.specs.Boxes.{In, span, word, lowAre, met, second, countOf, boxOf, Fine, Among, Has, ChosenOf, Chosen, Solves, Every}
+use Rattle.picking.specs.Boxes.{In, span, word, lowAre, met, second, countOf, boxOf, Fine, Has, ChosenOf, Chosen, Solves, Every}
 
 -- ---- the pick from a set
 
@@ -110,7 +110,8 @@ pub only-by : {w k x t : ℕ} {r : Set} (f : ℕ → ℕ) → w ≤ 64 → ((v :
 only-by f h u e s = solves-by h s (λ v l m. ap f (m .0) ∙ sym e ∙ m .1) (λ v l m. (u v m, e ∙ ap f (sym (u v m)) ∙ m))
 
 -- f is t from a on
-pub from-by : {w a t : ℕ} {r : Set} (f : ℕ → ℕ) → w ≤ 64 → ((v : ℕ) → a ≤ v → f v ≡ t) → ((v : ℕ) → f v ≡ t → a ≤ v) → Solves 64 (λ v. (a ≤ v) × (v ≤ 2 ^ 64 - 1)) r → Solves w (λ v. f v ≡ t) r
+pub from-by : {w a t : ℕ} {r : Set} (f : ℕ → ℕ) → w ≤ 64 → ((v : ℕ) → a ≤ v → f v ≡ t) → ((v : ℕ) → f v ≡ t → a ≤ v)
+    → Solves 64 (λ v. (a ≤ v) × (v ≤ 2 ^ 64 - 1)) r → Solves w (λ v. f v ≡ t) r
 from-by f h to back s = solves-by h s (λ v l m. to v (m .0)) (λ v l m. (back v m, le-ones 64 (lt-of-lt-of-le l (pow-mono h))))
 
 solves-one : {w : ℕ} {Q : ℕ → Type 0} (b : Box) → ((v : ℕ) → v < 2 ^ w → In b v → Q v) → ((v : ℕ) → v < 2 ^ w → Q v → In b v) → Solves w Q (One b)

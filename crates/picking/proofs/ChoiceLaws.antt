@@ -1,11 +1,12 @@
 -- If: what it gives, by the branch that is taken, and what solves its equations.
-use mathlib.Core.Path.{_≡_, refl, sym, _∙_}
+use mathlib.Core.Path.{_≡_, refl, sym, ap, _∙_}
 use Prim.Native.Nat.{ℕ, zero, suc, _-_, _≤_, _<_}
 use native.Mathlib.Nat.{le-refl}
 use native.Mathlib.Omega.{arith}
 use Rattle.operators.specs.Meaning.{choose}
 use Rattle.picking.specs.declared.spot.Three.{Three}
 use Rattle.picking.specs.Spot.{at, put}
+use Rattle.picking.specs.Positions.{at-put-same, at-put-other}
 use Rattle.picking.specs.declared.boxes.Set.{Set}
 use Rattle.picking.specs.Boxes.{Solves, Every}
 use Rattle.picking.specs.Asks.{branchOf}
@@ -22,40 +23,30 @@ chosen-at q = go (q .a)
     go zero = refl
     go (suc x) = refl
 
--- a branch with v in it: v where it is taken, else the other branch
-branch-taken : (x : Three) (i v : ℕ) → 1 ≤ i → i < 3 → branchOf (x .a) ≡ i → chosen (put x i v) ≡ v
-branch-taken x zero v l h e = absurd (omega arith)
-branch-taken x (suc zero) v l h e = go (x .a) e
-  where
-    go : (c : ℕ) → branchOf c ≡ 1 → choose c v (x .c) ≡ v
-    go zero e = absurd (omega arith)
-    go (suc c) e = refl
-branch-taken x (suc (suc zero)) v l h e = go (x .a) e
-  where
-    go : (c : ℕ) → branchOf c ≡ 2 → choose c (x .b) v ≡ v
-    go zero e = refl
-    go (suc c) e = absurd (omega arith)
-branch-taken x (suc (suc (suc i))) v l h e = absurd (omega arith)
-
-branch-left : (x : Three) (i v : ℕ) → 1 ≤ i → i < 3 → (branchOf (x .a) ≡ i → ⊥) → chosen (put x i v) ≡ at x (3 - i)
-branch-left x zero v l h f = absurd (omega arith)
-branch-left x (suc zero) v l h f = go (x .a) f
-  where
-    go : (c : ℕ) → (branchOf c ≡ 1 → ⊥) → choose c v (x .c) ≡ x .c
-    go zero f = refl
-    go (suc c) f = absurd (f refl)
-branch-left x (suc (suc zero)) v l h f = go (x .a) f
-  where
-    go : (c : ℕ) → (branchOf c ≡ 2 → ⊥) → choose c (x .b) v ≡ x .b
-    go zero f = absurd (f refl)
-    go (suc c) f = refl
-branch-left x (suc (suc (suc i))) v l h f = absurd (omega arith)
-
 pub branch-is : (x : ℕ) → (x ≡ 0 → ⊥) → 1 ≡ branchOf x
 branch-is zero f = absurd (f refl)
 branch-is (suc x) f = refl
 
--- ---- a branch
+pub branch-low : (x : ℕ) → 1 ≤ branchOf x
+branch-low zero = omega arith
+branch-low (suc x) = omega arith
+
+pub branch-few : (x : ℕ) → branchOf x < 3
+branch-few zero = omega arith
+branch-few (suc x) = omega arith
+
+-- ---- a branch with v in it: v where it is taken, else the other branch
+branch-at : (x : Three) (i v j : ℕ) → 1 ≤ i → i < 3 → branchOf (x .a) ≡ j → chosen (put x i v) ≡ at (put x i v) j
+branch-at x i v j l h e = chosen-at (put x i v) ∙ ap (λ (n : ℕ). at (put x i v) (branchOf n)) (at-put-other x i v 0 h (omega arith) (λ q. omega arith)) ∙ ap (at (put x i v)) e
+
+branch-taken : (x : Three) (i v : ℕ) → 1 ≤ i → i < 3 → branchOf (x .a) ≡ i → chosen (put x i v) ≡ v
+branch-taken x i v l h e = branch-at x i v i l h e ∙ at-put-same x i v h
+
+branch-left : (x : Three) (i v : ℕ) → 1 ≤ i → i < 3 → (branchOf (x .a) ≡ i → ⊥) → chosen (put x i v) ≡ at x (3 - i)
+branch-left x i v l h f =
+    let e : branchOf (x .a) ≡ 3 - i = omega (arith, branch-low (x .a), branch-few (x .a)) in
+    branch-at x i v (3 - i) l h e ∙ at-put-other x i v (3 - i) h (omega arith) (λ q. omega arith)
+
 module _ {i t : ℕ} {r : Set} (x : Three) (l : 1 ≤ i) (h : i < 3) where
   pub taken-by : branchOf (x .a) ≡ i → Solves 64 (λ v. v ≡ t) r → Solves 64 (λ v. chosen (put x i v) ≡ t) r
   taken-by e s = solves-by (le-refl 64) s (λ v k m. branch-taken x i v l h e ∙ m) (λ v k m. sym (branch-taken x i v l h e) ∙ m)
@@ -93,11 +84,3 @@ module _ {y z t : ℕ} {r : Set} where
       go : (v : ℕ) → choose v y z ≡ t
       go zero = f
       go (suc v) = e
-
-pub branch-low : (x : ℕ) → 1 ≤ branchOf x
-branch-low zero = omega arith
-branch-low (suc x) = omega arith
-
-pub branch-few : (x : ℕ) → branchOf x < 3
-branch-few zero = omega arith
-branch-few (suc x) = omega arith

@@ -5,7 +5,7 @@ use Prim.Native.Nat.{ℕ, zero, suc, _-_, _%_, _^_, _≤_, _<_, zero-le}
 use native.Mathlib.Nat.{le-refl, sub-zero}
 use native.Mathlib.Omega.{arith}
 use lib.Dec.{eqb, ltb}
-use lib.Pow.{pow-pos, le-ones}
+use lib.Pow.{pow-pos}
 use borrow.Author.Tests.{ltb-true, ltb-false, eqb-true, eqb-false, lt-ltb, le-ltb, eq-eqb, ne-eqb}
 use Rattle.operators.specs.Meaning.{flag}
 use Rattle.picking.specs.declared.boxes.Set.{Set}
@@ -34,6 +34,13 @@ yes-equal x y e = ap flag (eq-eqb x y e)
 
 pub no-equal : (x y : ℕ) → (x ≡ y → ⊥) → flag (eqb x y) ≡ 0
 no-equal x y f = ap flag (ne-eqb x y f)
+
+pub equal-comm : (x y : ℕ) → flag (eqb x y) ≡ flag (eqb y x)
+equal-comm x y = go (eqb x y) refl
+  where
+    go : (b : Bool) → eqb x y ≡ b → flag (eqb x y) ≡ flag (eqb y x)
+    go true e = yes-equal x y (eqb-true x y e) ∙ sym (yes-equal y x (sym (eqb-true x y e)))
+    go false e = no-equal x y (eqb-false x y e) ∙ sym (no-equal y x (λ q. eqb-false x y e (sym q)))
 
 pub less-yes : (x y : ℕ) → flag (ltb x y) ≡ 1 → x < y
 less-yes x y e = ltb-true x y (flag-one (ltb x y) e)

@@ -1,23 +1,27 @@
 -- Laws of essential positions: of one, of two, and of the positions of `if`.
-use mathlib.Core.Path.{_≡_, refl, sym, ap, _∙_}
+use mathlib.Core.Path.{_≡_, refl, sym, ap, _∙_, subst}
 use mathlib.Core.Bool.{Bool, true, false, not, _&&_, _||_}
 use mathlib.Core.Logic.{_⊎_, inl, inr, ⊎-elim}
-use Prim.Native.Nat.{ℕ, zero, suc, _-_, _^_, _≤_, _<_}
+use Prim.Native.Nat.{ℕ, zero, suc, _-_, _≤_, _<_}
 use native.Mathlib.Omega.{arith}
 use lib.Dec.{eqb}
 use borrow.Author.Tests.{eqb-true, eqb-false}
+use Rattle.words.specs.declared.found.Found.{Found}
+use Rattle.words.specs.declared.found.Found.the-variants.{At, Nothing}
 use Rattle.words.specs.Agree.{Agrees, agrees-lt}
 use Rattle.words.specs.Decides.{Decides, decides-same}
-use Rattle.words.specs.Pick.{Empty}
+use Rattle.words.specs.Pick.{Empty, Picked, pick-member}
 use Rattle.operators.specs.Table.{kindOf, shapeOf}
 use Rattle.operators.specs.Meaning.{meaning, Fit}
 use Rattle.picking.specs.declared.spot.Three.{Three}
 use Rattle.picking.specs.declared.spot.Spot.{Spot}
 use Rattle.picking.specs.Spot.{at, put, positions, Other, value, Inverse, Essential, Fair, Asked}
 use Rattle.picking.specs.Positions.{at-put-same, at-put-other, value-used}
+use Rattle.picking.specs.declared.boxes.Set.{Set}
+use Rattle.picking.specs.Boxes.{Solves, Chosen}
 use Rattle.picking.specs.Asks.{branchOf, Had}
-use Rattle.picking.proofs.ChoiceLaws.{chosen, chosen-at}
-use Rattle.picking.proofs.SpotLaws.{slot-lt, count-at, rule-at, slot-at, two-of, other-of}
+use Rattle.picking.proofs.ChoiceLaws.{chosen-at}
+use Rattle.picking.proofs.SpotLaws.{slot-lt, count-at, rule-at, slot-at, two-by-two, other-of, inverse-picked}
 
 -- ---- tests
 pub decides-and : (A B : Type 0) (a b : Bool) → Decides A a → Decides B b → Decides (A × B) (a && b)
@@ -30,7 +34,7 @@ decides-or A B true b p q = inl p
 decides-or A B false true p q = inr q
 decides-or A B false false p q = ⊎-elim p q
 
-pub decides-not : (A : Type 0) (a : Bool) → Decides A a → Decides (A → ⊥) (not a)
+decides-not : (A : Type 0) (a : Bool) → Decides A a → Decides (A → ⊥) (not a)
 decides-not A true p = λ f. f p
 decides-not A false p = p
 
@@ -57,7 +61,10 @@ module _ (S : Spot) (F : Fair S) where
 
 pub alone : (S : Spot) (t r : ℕ) → positions S ≡ 1 → r ≡ value S (S .current) → Decides (Essential S t 0) (not (eqb r t))
 unfolding Essential
-alone S t r one e = decides-same (r ≡ t → ⊥) (Essential S t 0) (λ f o g m. f (e ∙ sym (same o) ∙ m)) (λ E q. E (S .current) (λ j l. absurd (l .apart (omega (arith, l .below, one)))) (same (S .current) ∙ sym e ∙ q)) (not (eqb r t)) (decides-not (r ≡ t) (eqb r t) (decides-eq r t))
+alone S t r one e =
+    decides-same (r ≡ t → ⊥) (Essential S t 0) (λ f o g m. f (e ∙ sym (same o) ∙ m))
+    (λ E q. E (S .current) (λ j l. absurd (l .apart (omega (arith, l .below, one)))) (same (S .current) ∙ sym e ∙ q)) (not (eqb r t))
+    (decides-not (r ≡ t) (eqb r t) (decides-eq r t))
   where
     same : (o : Three) → value S (put o 0 (S .current .a)) ≡ value S (S .current)
     same o = value-used S (put o 0 (S .current .a)) (S .current) (λ j l. first j (omega (arith, l, one)))
@@ -68,19 +75,34 @@ alone S t r one e = decides-same (r ≡ t → ⊥) (Essential S t 0) (λ f o g m
 -- ---- of two: the other position's value, with this one's current one
 module _ (S : Spot) (t i : ℕ) (two : positions S ≡ 2) (h : i < 2) where
   swapped : (o : Three) → value S (put (S .current) (1 - i) (at o (1 - i))) ≡ value S (put o i (at (S .current) i))
-  swapped o = value-used S (put (S .current) (1 - i) (at o (1 - i))) (put o i (at (S .current) i)) (λ j l. same i h j (rw two at l))
-    where
-      same : (i : ℕ) → i < 2 → (j : ℕ) → j < 2 → at (put (S .current) (1 - i) (at o (1 - i))) j ≡ at (put o i (at (S .current) i)) j
-      same i h j l = two-of (λ i. at (put (S .current) (1 - i) (at o (1 - i))) j ≡ at (put o i (at (S .current) i)) j) i h (two-of (λ j. at (put (S .current) 1 (o .b)) j ≡ at (put o 0 (S .current .a)) j) j l refl refl) (two-of (λ j. at (put (S .current) 0 (o .a)) j ≡ at (put o 1 (S .current .b)) j) j l refl refl)
+  swapped o =
+      value-used S (put (S .current) (1 - i) (at o (1 - i))) (put o i (at (S .current) i))
+      (λ j l. two-by-two (λ i j. at (put (S .current) (1 - i) (at o (1 - i))) j ≡ at (put o i (at (S .current) i)) j) i j h (rw two at l) refl refl refl refl)
 
-  pub two-yes : Empty (Inverse S t (1 - i)) → Essential S t i
+  two-yes : Empty (Inverse S t (1 - i)) → Essential S t i
   unfolding Essential
   two-yes f o g m = f (at o (1 - i)) (record { agrees = g (1 - i) (record { below = rw two (omega arith); apart = λ e. omega arith }); gives = swapped o ∙ m })
 
-  pub two-no : (v : ℕ) → Inverse S t (1 - i) v → Essential S t i → ⊥
+  two-no : (v : ℕ) → Inverse S t (1 - i) v → Essential S t i → ⊥
   unfolding Essential
-  two-no v m E = E (put (S .current) (1 - i) v) (λ j l. let e = other-of i j h (rw two at (l .below)) (l .apart) in rw (e, at-put-same (S .current) (1 - i) v (omega arith)) (m .agrees))
+  two-no v m E =
+      E (put (S .current) (1 - i) v)
+      (λ j l. let e = other-of i j h (rw two at (l .below)) (l .apart) in rw (e, at-put-same (S .current) (1 - i) v (omega arith)) (m .agrees))
       (sym (swapped (put (S .current) (1 - i) v)) ∙ ap (λ (n : ℕ). value S (put (S .current) (1 - i) n)) (at-put-same (S .current) (1 - i) v (omega arith)) ∙ m .gives)
+
+-- as code finds it out, by a pick at the other position
+pub two-told : {S : Spot} {t i lo hi : ℕ} {set : Set} → Asked S i t → positions S ≡ 2 → Solves (at (S .widths) (1 - i)) (λ v. value S (put (S .current) (1 - i) v) ≡ t) set
+    → lo ≡ at (S .los) (1 - i) → hi ≡ at (S .his) (1 - i) → (r : Found) → Picked (Chosen set lo hi) 0 r → (r ≡ Nothing → Essential S t i) × ((v : ℕ) → r ≡ At v → Essential S t i → ⊥)
+two-told {S} {t} {i} {lo} {hi} {set} A two s el eh r k = (
+  (λ e. two-yes S t i two here (subst (Picked (Inverse S t (1 - i)) 0) e picked)),
+  (λ v e. two-no S t i two here v (pick-member (subst (Picked (Inverse S t (1 - i)) 0) e picked))),
+)
+  where
+    here : i < 2
+    here = rw two at (A .position)
+
+    picked : Picked (Inverse S t (1 - i)) 0 r
+    picked = inverse-picked 0 r (record { fair = A .fair; position = rw two (omega arith); target = A .target }) s (rw (el, eh) at k)
 
 -- ---- of `if`
 
@@ -101,19 +123,11 @@ branch-way (suc (suc zero)) l h = (refl, refl)
 branch-way (suc (suc (suc i))) l h = absurd (omega arith)
 
 way-of : (x i : ℕ) → x < 2 → 1 ≤ i → i < 3 → (x ≡ 2 - i) ⊎ (x ≡ 1 - (2 - i))
-way-of zero i h l k = go i l k
+way-of x i h l k = go (eqb x (2 - i)) refl
   where
-    go : (i : ℕ) → 1 ≤ i → i < 3 → (0 ≡ 2 - i) ⊎ (0 ≡ 1 - (2 - i))
-    go zero l k = absurd (omega arith)
-    go (suc zero) l k = inr refl
-    go (suc (suc i)) l k = inl (omega arith)
-way-of (suc zero) i h l k = go i l k
-  where
-    go : (i : ℕ) → 1 ≤ i → i < 3 → (1 ≡ 2 - i) ⊎ (1 ≡ 1 - (2 - i))
-    go zero l k = absurd (omega arith)
-    go (suc zero) l k = inl refl
-    go (suc (suc i)) l k = inr (omega arith)
-way-of (suc (suc x)) i h l k = absurd (omega arith)
+    go : (b : Bool) → eqb x (2 - i) ≡ b → (x ≡ 2 - i) ⊎ (x ≡ 1 - (2 - i))
+    go true e = inl (eqb-true x (2 - i) e)
+    go false e = let f = eqb-false x (2 - i) e in inr (omega arith)
 
 module _ (S : Spot) (t : ℕ) (F : Fair S) (key : S .kind ≡ 11) where
   now : (k : ℕ) → k < 3 → Agrees (at (S .los) k) (at (S .his) k) (at (S .current) k)
@@ -146,8 +160,17 @@ module _ (S : Spot) (t : ℕ) (F : Fair S) (key : S .kind ≡ 11) where
     abbrev HadAt : Type 0
     HadAt = Had (S .los .a) (S .his .a) (2 - i) (at (S .current) i) (at (S .los) (3 - i)) (at (S .his) (3 - i)) t
 
-    cond : (o : Three) (v : ℕ) → put o i v .a ≡ o .a
-    cond o v = at-put-other o i v 0 h (omega arith) (λ e. omega arith)
+    -- the branch that the condition takes
+    way : (o : Three) (j : ℕ) → branchOf (o .a) ≡ j → value S (put o i (at (S .current) i)) ≡ at (put o i (at (S .current) i)) j
+    way o j e =
+        given o i (at (S .current) i) j (ap branchOf (at-put-other o i (at (S .current) i) 0 h (omega arith) (λ q. omega arith)) ∙ e)
+
+    taken : (o : Three) → o .a ≡ 2 - i → value S (put o i (at (S .current) i)) ≡ at (S .current) i
+    taken o e = way o i (ap branchOf e ∙ branch-way i low h .0) ∙ at-put-same o i (at (S .current) i) h
+
+    passed : (o : Three) → o .a ≡ 1 - (2 - i) → value S (put o i (at (S .current) i)) ≡ at o (3 - i)
+    passed o e =
+        way o (3 - i) (ap branchOf e ∙ branch-way i low h .1) ∙ at-put-other o i (at (S .current) i) (3 - i) h (omega arith) (λ q. omega arith)
 
     had-by : (o : Three) → ((j : ℕ) → Other S i j → Agrees (at (S .los) j) (at (S .his) j) (at o j)) → value S (put o i (at (S .current) i)) ≡ t → HadAt
     had-by o g m = go (way-of (o .a) i short low h)
@@ -159,24 +182,20 @@ module _ (S : Spot) (t : ℕ) (F : Fair S) (key : S .kind ≡ 11) where
         short = rw (rule-at F key .0) at (agrees-lt (S .widths .a) (slot-at F key 0 (omega arith) .under) first)
 
         go : (o .a ≡ 2 - i) ⊎ (o .a ≡ 1 - (2 - i)) → HadAt
-        go (inl e) = inl (rw e at first, sym (given o i (at (S .current) i) i (ap branchOf (cond o (at (S .current) i) ∙ e) ∙ branch-way i low h .0) ∙ at-put-same o i (at (S .current) i) h) ∙ m)
-        go (inr e) =
-            inr (rw e at first, rw (sym (given o i (at (S .current) i) (3 - i) (ap branchOf (cond o (at (S .current) i) ∙ e) ∙ branch-way i low h .1) ∙ at-put-other o i (at (S .current) i) (3 - i) h (omega arith) (λ q. omega arith)) ∙ m) at (g (3 - i) (another i (3 - i) (omega arith) (λ q. omega arith))))
+        go (inl e) = inl (rw e at first, sym (taken o e) ∙ m)
+        go (inr e) = inr (rw e at first, rw (sym (passed o e) ∙ m) at (g (3 - i) (another i (3 - i) (omega arith) (λ q. omega arith))))
 
     by-had : HadAt → Essential S t i → ⊥
     unfolding Essential
     by-had (inl q) E =
         let o = put (S .current) 0 (2 - i) in
-        E o (λ k l. agree-put S (S .current) now 0 (2 - i) (omega arith) (q .0) k (below l))
-        (given o i (at (S .current) i) i (ap branchOf (cond o (at (S .current) i)) ∙ branch-way i low h .0) ∙ at-put-same o i (at (S .current) i) h ∙ q .1)
+        E o (λ k l. agree-put S (S .current) now 0 (2 - i) (omega arith) (q .0) k (below l)) (taken o refl ∙ q .1)
     by-had (inr q) E =
         let p = put (S .current) 0 (1 - (2 - i)) in
         let o = put p (3 - i) t in
         let g = agree-put S (S .current) now 0 (1 - (2 - i)) (omega arith) (q .0) in
-        let e : o .a ≡ 1 - (2 - i) = at-put-other p (3 - i) t 0 (omega arith) (omega arith) (λ d. omega arith) in
         E o (λ k l. agree-put S p g (3 - i) t (omega arith) (q .1) k (below l))
-        (given o i (at (S .current) i) (3 - i) (ap branchOf (cond o (at (S .current) i) ∙ e) ∙ branch-way i low h .1)
-        ∙ at-put-other o i (at (S .current) i) (3 - i) h (omega arith) (λ d. omega arith) ∙ at-put-same p (3 - i) t (omega arith))
+        (passed o (at-put-other p (3 - i) t 0 (omega arith) (omega arith) (λ d. omega arith)) ∙ at-put-same p (3 - i) t (omega arith))
 
     pub branch : (b : Bool) → Decides HadAt b → Decides (Essential S t i) (not b)
     unfolding Essential

@@ -1,3 +1,4 @@
+-- Laws that only the proofs of this crate cite.
 pub mod ArithmeticLaws
 pub mod BitwiseLaws
 pub mod BoxLaws

@@ -1,14 +1,12 @@
 -- Laws of spots: what the arms of a match on the kind know, and what an arm's set comes to at the spot.
-use mathlib.Core.Path.{_≡_, refl, sym, ap, _∙_, subst}
-use mathlib.Core.Bool.{Bool, true, false}
-use mathlib.Core.Logic.{_⊎_, inl, inr}
-use Prim.Native.Nat.{ℕ, zero, suc, _+_, _-_, _*_, _/_, _%_, _^_, _≤_, _<_}
-use native.Mathlib.Nat.{le-refl, le-of-eq, lt-of-lt-of-le, mod-lt, mod-eq-of-lt, add-comm, add-mod-mod, add-mod-right}
+use mathlib.Core.Path.{_≡_, refl, sym, ap, _∙_}
+use mathlib.Core.Logic.{inl, inr}
+use Prim.Native.Nat.{ℕ, zero, suc, _+_, _-_, _%_, _^_, _≤_, _<_}
+use native.Mathlib.Nat.{le-refl, le-of-eq, lt-of-lt-of-le, mod-lt, mod-eq-of-lt, add-mod-mod, add-mod-right}
 use native.Mathlib.Omega.{arith}
 use lib.Bits.{bitXor, xor-lt, xor-comm}
 use lib.Dec.{eqb}
 use lib.Pow.{pow-pos, pow-mono}
-use borrow.Author.Tests.{eqb-true, eqb-false}
 use types.Run.{OneOf}
 use Rattle.words.specs.declared.found.Found.{Found}
 use Rattle.words.specs.Agree.{Agrees, agrees-lt}
@@ -19,14 +17,15 @@ use Rattle.operators.specs.Meaning.{meaning, flag, choose}
 use Rattle.picking.specs.declared.spot.Three.{Three}
 use Rattle.picking.specs.declared.spot.Spot.{Spot}
 use Rattle.picking.specs.declared.boxes.Set.{Set}
-use Rattle.picking.specs.Spot.{at, put, positions, Other, value, Reaches, Slot, Fair, Asked}
+use Rattle.picking.specs.Spot.{at, put, positions, value, Inverse, Reaches, Consistent, Slot, Fair, Asked}
 use Rattle.picking.specs.Positions.{at-put-same, value-used}
 use Rattle.picking.specs.Boxes.{Solves, Chosen, Some}
 use Rattle.picking.specs.Asks.{joint, sideOf, Joined}
+use Rattle.picking.proofs.ArithmeticLaws.{sum-comm}
 use Rattle.picking.proofs.BitwiseLaws.{xor-back}
 use Rattle.picking.proofs.BoxLaws.{solves-by}
 use Rattle.picking.proofs.ChoiceLaws.{chosen}
-use Rattle.picking.proofs.ComparisonLaws.{yes-equal, no-equal}
+use Rattle.picking.proofs.ComparisonLaws.{yes-equal, no-equal, equal-comm}
 use Rattle.picking.proofs.KindLaws.{makeup}
 
 -- ---- by position
@@ -41,15 +40,18 @@ other-rest x (suc zero) f = refl
 other-rest x (suc (suc i)) f = let e : 1 - suc (suc i) ≡ 0 = omega arith in rw e
 
 -- what holds of a and of b holds of any of two positions
-pub two-of : (P : ℕ → Type 0) (i : ℕ) → i < 2 → P 0 → P 1 → P i
+two-of : (P : ℕ → Type 0) (i : ℕ) → i < 2 → P 0 → P 1 → P i
 two-of P zero h a b = a
 two-of P (suc zero) h a b = b
 two-of P (suc (suc i)) h a b = absurd (omega arith)
 
+pub two-by-two : (P : ℕ → ℕ → Type 0) (i j : ℕ) → i < 2 → j < 2 → P 0 0 → P 0 1 → P 1 0 → P 1 1 → P i j
+two-by-two P i j h l a b c d = two-of (λ i. P i j) i h (two-of (P 0) j l a b) (two-of (P 1) j l c d)
+
 pub other-of : (i j : ℕ) → i < 2 → j < 2 → (j ≡ i → ⊥) → j ≡ 1 - i
 other-of i j h l f = omega arith
 
-pub joint-at : (i v s : ℕ) → i < 2 → at (joint i v s) (1 - i) ≡ s
+joint-at : (i v s : ℕ) → i < 2 → at (joint i v s) (1 - i) ≡ s
 joint-at i v s h = two-of (λ i. at (joint i v s) (1 - i) ≡ s) i h refl refl
 
 -- ---- what an arm knows of a spot of its kind
@@ -74,7 +76,7 @@ module _ {S : Spot} {i t m : ℕ} (A : Asked S i t) (key : S .kind ≡ m) where
   place = rw (count-at (A .fair) key) at (A .position)
 
   -- the other operand's current value
-  pub other-lt : {y : ℕ} → 1 < shapeOf m .operands → y ≡ at (S .current) (1 - i) → y < 2 ^ at (S .widths) (1 - i)
+  other-lt : {y : ℕ} → 1 < shapeOf m .operands → y ≡ at (S .current) (1 - i) → y < 2 ^ at (S .widths) (1 - i)
   other-lt h e = rw e (slot-lt (slot-at (A .fair) key (1 - i) (omega arith)))
 
   -- both operands have the node's width
@@ -84,10 +86,10 @@ module _ {S : Spot} {i t m : ℕ} (A : Asked S i t) (key : S .kind ≡ m) where
         let e : (S .widths .a ≡ S .width) × (S .widths .b ≡ S .width) = rw both at (rule-at (A .fair) key) in
         two-of (λ j. at (S .widths) j ≡ S .width) j h (e .0) (e .1)
 
-    pub both-wide : at (S .widths) i ≤ S .width
+    both-wide : at (S .widths) i ≤ S .width
     both-wide = le-of-eq (both-width i (rw both at place))
 
-    pub both-other : at (S .widths) (1 - i) ≡ S .width
+    both-other : at (S .widths) (1 - i) ≡ S .width
     both-other = both-width (1 - i) (omega arith)
 
     pub both-lt : {y : ℕ} → y ≡ at (S .current) (1 - i) → y < 2 ^ S .width
@@ -98,7 +100,7 @@ module _ {S : Spot} {i t m : ℕ} (A : Asked S i t) (key : S .kind ≡ m) where
     equal-rule : (S .widths .a ≡ S .widths .b) × (S .width ≡ 1)
     equal-rule = rw equal at (rule-at (A .fair) key)
 
-    pub equal-width : (j : ℕ) → j < 2 → at (S .widths) j ≡ S .widths .a
+    equal-width : (j : ℕ) → j < 2 → at (S .widths) j ≡ S .widths .a
     equal-width j h = two-of (λ j. at (S .widths) j ≡ S .widths .a) j h refl (sym (equal-rule .0))
 
     pub flag-target : t < 2
@@ -115,20 +117,19 @@ joined-at {S} {i} {t} A key =
       fits = rw e (A .target);
     }
 
-pub side-at : (S : Spot) (i : ℕ) → i < 2 → sideOf i (S .widths .a) (S .widths .b) ≡ at (S .widths) i
+side-at : (S : Spot) (i : ℕ) → i < 2 → sideOf i (S .widths .a) (S .widths .b) ≡ at (S .widths) i
 side-at S i h = two-of (λ i. sideOf i (S .widths .a) (S .widths .b) ≡ at (S .widths) i) i h refl refl
 
 -- ---- what an arm's set comes to: with the others at their current values
 
 -- an operator of two operands sees v and what stands at the other position
 value-joint : (S : Spot) (x : Three) (i v : ℕ) → positions S ≡ 2 → i < 2 → value S (put x i v) ≡ value S (joint i v (at x (1 - i)))
-value-joint S x i v two h = value-used S (put x i v) (joint i v (at x (1 - i))) (λ j l. same j (rw two at l))
-  where
-    same : (j : ℕ) → j < 2 → at (put x i v) j ≡ at (joint i v (at x (1 - i))) j
-    same j l = two-of (λ i. at (put x i v) j ≡ at (joint i v (at x (1 - i))) j) i h (two-of (λ j. at (put x 0 v) j ≡ at (joint 0 v (x .b)) j) j l refl refl) (two-of (λ j. at (put x 1 v) j ≡ at (joint 1 v (x .a)) j) j l refl refl)
+value-joint S x i v two h =
+    value-used S (put x i v) (joint i v (at x (1 - i)))
+    (λ j l. two-by-two (λ i j. at (put x i v) j ≡ at (joint i v (at x (1 - i))) j) i j h (rw two at l) refl refl refl refl)
 
 module _ {S : Spot} {i t m : ℕ} (A : Asked S i t) (key : S .kind ≡ m) where
-  abbrev opAt : Three → ℕ
+  abbrev pub opAt : Three → ℕ
   opAt q = meaning (kindOf m) (S .width) (S .widths .a) (S .widths .b) (S .low) (q .a) (q .b) (q .c)
 
   op-at : (q : Three) → value S q ≡ opAt q
@@ -138,13 +139,13 @@ module _ {S : Spot} {i t m : ℕ} (A : Asked S i t) (key : S .kind ≡ m) where
   arm h s = solves-by h s (λ v l e. op-at (put (S .current) i v) ∙ e) (λ v l e. sym (op-at (put (S .current) i v)) ∙ e)
 
   pub arm-one : {u : ℕ} {r : Set} → shapeOf m .operands ≡ 1 → S .widths .a ≤ u → Solves u (λ v. opAt (put (S .current) 0 v) ≡ t) r → Solves (at (S .widths) i) (λ v. value S (put (S .current) i v) ≡ t) r
-  arm-one {u} {r} one h s = let e : i ≡ 0 = omega (arith, place A key, one) in rw e (solves-by h s (λ v l k. op-at (put (S .current) 0 v) ∙ k) (λ v l k. sym (op-at (put (S .current) 0 v)) ∙ k))
+  arm-one {u} one h s = let e : i ≡ 0 = omega (arith, place A key, one) in arm {u = u} (rw e h) (rw e s)
 
   module _ (two : shapeOf m .operands ≡ 2) where
     place-two : i < 2
     place-two = rw two at (place A key)
 
-    pub arm-two : {u y : ℕ} {r : Set} → at (S .widths) i ≤ u → y ≡ at (S .current) (1 - i) → Solves u (λ v. opAt (joint i v y) ≡ t) r
+    arm-two : {u y : ℕ} {r : Set} → at (S .widths) i ≤ u → y ≡ at (S .current) (1 - i) → Solves u (λ v. opAt (joint i v y) ≡ t) r
         → Solves (at (S .widths) i) (λ v. value S (put (S .current) i v) ≡ t) r
     arm-two {u} {y} h e s = solves-by h s (λ v l k. same v ∙ k) (λ v l k. sym (same v) ∙ k)
       where
@@ -166,29 +167,56 @@ module _ {S : Spot} {i t m : ℕ} (A : Asked S i t) (key : S .kind ≡ m) where
       gives = sym (op-at (joint i v (at (m .others) (1 - i)))) ∙ sym (value-joint S (m .others) i v (count-at (A .fair) key ∙ two) place-two) ∙ m .gives;
     }
 
-    pub reach-two : {u k : ℕ} {r : Set} → at (S .widths) i ≤ u → at (S .widths) (1 - i) ≡ k → Solves u (λ v. Some k (λ s. opAt (joint i v s) ≡ t)) r → Solves (at (S .widths) i) (λ v. Reaches S t i v) r
+    reach-two : {u k : ℕ} {r : Set} → at (S .widths) i ≤ u → at (S .widths) (1 - i) ≡ k → Solves u (λ v. Some k (λ s. opAt (joint i v s) ≡ t)) r → Solves (at (S .widths) i) (λ v. Reaches S t i v) r
     reach-two h e s = solves-by h s (λ v l m. to-reach v e m) (λ v l m. of-reach v e m)
 
--- an operator that does not mind the order
-alike : (f : ℕ → ℕ → ℕ) → ((x y : ℕ) → f x y ≡ f y x) → (i v s : ℕ) → f (joint i v s .a) (joint i v s .b) ≡ f v s
-alike f comm zero v s = refl
-alike f comm (suc i) v s = comm s v
+-- the same by width: sets of 64 bits, operands of the node's width, the two sides of a concat
+module _ {S : Spot} {i t m : ℕ} (A : Asked S i t) (key : S .kind ≡ m) where
+  pub wide-arm : {y : ℕ} {r : Set} → shapeOf m .operands ≡ 2 → y ≡ at (S .current) (1 - i) → Solves 64 (λ v. opAt A key (joint i v y) ≡ t) r
+      → Solves (at (S .widths) i) (λ v. value S (put (S .current) i v) ≡ t) r
+  wide-arm two = arm-two A key two (wide-at A)
 
-module _ (f : ℕ → ℕ → ℕ) (comm : (x y : ℕ) → f x y ≡ f y x) (i : ℕ) {u t : ℕ} {r : Set} where
+  module _ (both : shapeOf m ≡ row 2 2 Both) where
+    pub both-arm : {y : ℕ} {r : Set} → y ≡ at (S .current) (1 - i) → Solves (S .width) (λ v. opAt A key (joint i v y) ≡ t) r → Solves (at (S .widths) i) (λ v. value S (put (S .current) i v) ≡ t) r
+    both-arm = arm-two A key (rw both) (both-wide A key both)
+
+    pub both-reach : {r : Set} → Solves (S .width) (λ v. Some (S .width) (λ s. opAt A key (joint i v s) ≡ t)) r → Solves (at (S .widths) i) (λ v. Reaches S t i v) r
+    both-reach = reach-two A key (rw both) (both-wide A key both) (both-other A key both)
+
+  pub equal-reach : {r : Set} → shapeOf m ≡ row 2 2 Equal → Solves (S .widths .a) (λ v. Some (S .widths .a) (λ s. opAt A key (joint i v s) ≡ t)) r → Solves (at (S .widths) i) (λ v. Reaches S t i v) r
+  equal-reach equal = reach-two A key (rw equal) (le-of-eq (equal-width A key equal i (rw equal at (place A key)))) (equal-width A key equal (1 - i) (omega arith))
+
+  module _ (two : shapeOf m .operands ≡ 2) where
+    here : sideOf i (S .widths .a) (S .widths .b) ≡ at (S .widths) i
+    here = side-at S i (rw two at (place A key))
+
+    there : sideOf (1 - i) (S .widths .a) (S .widths .b) ≡ at (S .widths) (1 - i)
+    there = side-at S (1 - i) (omega arith)
+
+    pub side-lt : {y : ℕ} → y ≡ at (S .current) (1 - i) → y < 2 ^ sideOf (1 - i) (S .widths .a) (S .widths .b)
+    side-lt e = rw there (other-lt A key (rw two (omega arith)) e)
+
+    pub side-arm : {y : ℕ} {r : Set} → y ≡ at (S .current) (1 - i) → Solves (sideOf i (S .widths .a) (S .widths .b)) (λ v. opAt A key (joint i v y) ≡ t) r
+        → Solves (at (S .widths) i) (λ v. value S (put (S .current) i v) ≡ t) r
+    side-arm = arm-two A key two (le-of-eq (sym here))
+
+    pub side-reach : {r : Set} → Solves (sideOf i (S .widths .a) (S .widths .b)) (λ v. Some (sideOf (1 - i) (S .widths .a) (S .widths .b)) (λ s. opAt A key (joint i v s) ≡ t)) r
+        → Solves (at (S .widths) i) (λ v. Reaches S t i v) r
+    side-reach = reach-two A key two (le-of-eq (sym here)) (sym there)
+
+-- an operator that does not mind the order
+alike : {f : ℕ → ℕ → ℕ} → ((x y : ℕ) → f x y ≡ f y x) → (i v s : ℕ) → f (joint i v s .a) (joint i v s .b) ≡ f v s
+alike comm zero v s = refl
+alike comm (suc i) v s = comm s v
+
+module _ {f : ℕ → ℕ → ℕ} (comm : (x y : ℕ) → f x y ≡ f y x) (i : ℕ) {u t : ℕ} {r : Set} where
   pub alike-by : {s : ℕ} → Solves u (λ v. f v s ≡ t) r → Solves u (λ v. f (joint i v s .a) (joint i v s .b) ≡ t) r
-  alike-by {s} m = solves-by (le-refl u) m (λ v l e. alike f comm i v s ∙ e) (λ v l e. sym (alike f comm i v s) ∙ e)
+  alike-by {s} m = solves-by (le-refl u) m (λ v l e. alike comm i v s ∙ e) (λ v l e. sym (alike comm i v s) ∙ e)
 
   pub alike-some : {k : ℕ} → Solves u (λ v. Some k (λ s. f v s ≡ t)) r → Solves u (λ v. Some k (λ s. f (joint i v s .a) (joint i v s .b) ≡ t)) r
   alike-some m =
-      solves-by (le-refl u) m (λ v l e. record { by = e .by; fits = e .fits; gives = alike f comm i v (e .by) ∙ e .gives })
-      (λ v l e. record { by = e .by; fits = e .fits; gives = sym (alike f comm i v (e .by)) ∙ e .gives })
-
-pub equal-comm : (x y : ℕ) → flag (eqb x y) ≡ flag (eqb y x)
-equal-comm x y = go (eqb x y) refl
-  where
-    go : (b : Bool) → eqb x y ≡ b → flag (eqb x y) ≡ flag (eqb y x)
-    go true e = yes-equal x y (eqb-true x y e) ∙ sym (yes-equal y x (sym (eqb-true x y e)))
-    go false e = no-equal x y (eqb-false x y e) ∙ sym (no-equal y x (λ q. eqb-false x y e (sym q)))
+      solves-by (le-refl u) m (λ v l e. record { by = e .by; fits = e .fits; gives = alike comm i v (e .by) ∙ e .gives })
+      (λ v l e. record { by = e .by; fits = e .fits; gives = sym (alike comm i v (e .by)) ∙ e .gives })
 
 -- no others: consistent is inverse
 pub reach-one : {S : Spot} {i t : ℕ} {r : Set} → Asked S i t → positions S ≡ 1 → Solves (at (S .widths) i) (λ v. value S (put (S .current) i v) ≡ t) r → Solves (at (S .widths) i) (λ v. Reaches S t i v) r
@@ -205,14 +233,14 @@ reach-one {S} {i} {t} A one s =
 
 -- ---- of xor, add, eq and if the others make up for any value
 module _ {S : Spot} {i t : ℕ} (A : Asked S i t) (v : ℕ) (hv : v < 2 ^ at (S .widths) i) where
-  reach-alike : {m k : ℕ} (key : S .kind ≡ m) → shapeOf m .operands ≡ 2 → at (S .widths) (1 - i) ≡ k → (f : ℕ → ℕ → ℕ) → ((x y : ℕ) → f x y ≡ f y x)
+  reach-alike : {m k : ℕ} {f : ℕ → ℕ → ℕ} (key : S .kind ≡ m) → shapeOf m .operands ≡ 2 → at (S .widths) (1 - i) ≡ k → ((x y : ℕ) → f x y ≡ f y x)
       → ((x y z : ℕ) → meaning (kindOf m) (S .width) (S .widths .a) (S .widths .b) (S .low) x y z ≡ f x y) → Some k (λ s. f v s ≡ t) → Reaches S t i v
-  reach-alike key two e f comm is m =
-      to-reach A key two v e (record { by = m .by; fits = m .fits; gives = is (joint i v (m .by) .a) (joint i v (m .by) .b) (joint i v (m .by) .c) ∙ alike f comm i v (m .by) ∙ m .gives })
+  reach-alike key two e comm is m =
+      to-reach A key two v e (record { by = m .by; fits = m .fits; gives = is (joint i v (m .by) .a) (joint i v (m .by) .b) (joint i v (m .by) .c) ∙ alike comm i v (m .by) ∙ m .gives })
 
   reach-xor : S .kind ≡ 4 → Reaches S t i v
   reach-xor key =
-      reach-alike key refl (both-other A key refl) bitXor xor-comm (λ x y z. refl)
+      reach-alike key refl (both-other A key refl) xor-comm (λ x y z. refl)
       (record { by = bitXor t v; fits = xor-lt (S .width) t v (A .target) (lt-of-lt-of-le hv (pow-mono (both-wide A key refl))); gives = xor-comm v (bitXor t v) ∙ xor-back t v })
 
   reach-add : S .kind ≡ 5 → Reaches S t i v
@@ -220,7 +248,7 @@ module _ {S : Spot} {i t : ℕ} (A : Asked S i t) (v : ℕ) (hv : v < 2 ^ at (S 
       let w = S .width in
       let l : v < 2 ^ w = lt-of-lt-of-le hv (pow-mono (both-wide A key refl)) in
       let e : v + (t + (2 ^ w - v)) ≡ t + 2 ^ w = omega arith in
-      reach-alike key refl (both-other A key refl) (λ x y. (x + y) % 2 ^ w) (λ x y. ap (λ (n : ℕ). n % 2 ^ w) (add-comm x y)) (λ x y z. refl)
+      reach-alike key refl (both-other A key refl) (sum-comm w) (λ x y z. refl)
       (record {
         by = (t + (2 ^ w - v)) % 2 ^ w;
         fits = mod-lt (t + (2 ^ w - v)) (pow-pos w);
@@ -228,7 +256,7 @@ module _ {S : Spot} {i t : ℕ} (A : Asked S i t) (v : ℕ) (hv : v < 2 ^ at (S 
       })
 
   reach-eq : S .kind ≡ 9 → Reaches S t i v
-  reach-eq key = reach-alike key refl same (λ x y. flag (eqb x y)) equal-comm (λ x y z. refl) (by t (flag-target A key refl) refl v hv)
+  reach-eq key = reach-alike key refl same equal-comm (λ x y z. refl) (by t (flag-target A key refl) refl v hv)
     where
       same : at (S .widths) (1 - i) ≡ at (S .widths) i
       same = equal-width A key refl (1 - i) (omega arith) ∙ sym (equal-width A key refl i (place A key))
@@ -272,7 +300,7 @@ module _ {S : Spot} {i t : ℕ} (A : Asked S i t) (v : ℕ) (hv : v < 2 ^ at (S 
   reach-any (inr (inr (inr e))) = reach-if e
 
 -- ---- the pick from what a set holds and a pair allows
-pub picked-at : {S : Spot} {i t : ℕ} {set : Set} {P Q : ℕ → Type 0} (p : ℕ) (r : Found) → Asked S i t → Solves (at (S .widths) i) P set
+picked-at : {S : Spot} {i t : ℕ} {set : Set} {P Q : ℕ → Type 0} (p : ℕ) (r : Found) → Asked S i t → Solves (at (S .widths) i) P set
     → ((v : ℕ) → Agrees (at (S .los) i) (at (S .his) i) v → P v → Q v) → ((v : ℕ) → Q v → Agrees (at (S .los) i) (at (S .his) i) v × P v)
     → Picked (Chosen set (at (S .los) i) (at (S .his) i)) p r → Picked Q p r
 picked-at {S} {i} {t} {set} {P} {Q} p r A s to back =
@@ -281,3 +309,10 @@ picked-at {S} {i} {t} {set} {P} {Q} p r A s to back =
   where
     short : (v : ℕ) → Agrees (at (S .los) i) (at (S .his) i) v → v < 2 ^ at (S .widths) i
     short v g = agrees-lt (at (S .widths) i) (A .fair .slots i (A .position) .under) g
+
+module _ {S : Spot} {i t : ℕ} {set : Set} (p : ℕ) (r : Found) (A : Asked S i t) where
+  pub inverse-picked : Solves (at (S .widths) i) (λ v. value S (put (S .current) i v) ≡ t) set → Picked (Chosen set (at (S .los) i) (at (S .his) i)) p r → Picked (Inverse S t i) p r
+  inverse-picked s = picked-at p r A s (λ v g m. record { agrees = g; gives = m }) (λ v m. (m .agrees, m .gives))
+
+  pub consistent-picked : Solves (at (S .widths) i) (λ v. Reaches S t i v) set → Picked (Chosen set (at (S .los) i) (at (S .his) i)) p r → Picked (Consistent S t i) p r
+  consistent-picked s = picked-at p r A s (λ v g m. record { agrees = g; reaches = m }) (λ v m. (m .agrees, m .reaches))

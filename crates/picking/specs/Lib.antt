@@ -1,6 +1,10 @@
--- What a reader must believe of picking: Spot. Asks and Boxes are what the crate's own sets promise, and the other
--- modules are laws.
+-- What a reader must believe of picking: Spot. Paper, Exact and Determined are what is proved of it; Asks and Boxes are
+-- what the crate's own sets promise; Positions and Tests are laws.
+pub mod Spot
+pub mod Paper
+pub mod Exact
+pub mod Determined
 pub mod Asks
 pub mod Boxes
 pub mod Positions
-pub mod Spot
+pub mod Tests

@@ -1,6 +1,7 @@
 // Whether a position is essential: no values of the others that agree give t while it keeps its current value.
+use crate::boxes::pick_in;
 use crate::choice::branch;
-use crate::picks::pick_inverse;
+use crate::sets::inverse_set;
 use crate::spot::Spot;
 use crate::spot::at;
 use words::Found;
@@ -28,12 +29,18 @@ fn essential_alone(s: Spot, t: u64) -> bool
     operators::value(op, now.a, 0, 0) != t
 }
 
-// Of two positions one is essential exactly if the other has no inverse value.
+// Of two positions one is essential exactly if the other has no inverse value: none that agrees with its pair.
 fn essential_of_two(s: Spot, i: u32, t: u64) -> bool
     requires { ⌜ Asked s i t × (positions s ≡ 2) ⌝ }
     ensures { λ r. ⌜ Decides (Essential s t i) r ⌝ }
 {
-    let Found::At(_) = pick_inverse(s, 1 - i, t, 0) else {
+    let los = s.los;
+    let his = s.his;
+    let j = 1 - i;
+    let set = inverse_set(s, j, t);
+    let lo = at(los, j);
+    let hi = at(his, j);
+    let Found::At(_) = pick_in(set, lo, hi, 0) else {
         return true;
     };
     false

@@ -1,3 +1,4 @@
+-- Everything divides 0; a factor of another t has a set bit no higher than t's lowest.
 use borrow.Author.Needs.{needs}
 use Rattle.picking.proofs.ArithmeticLaws.{some-mul-zero, some-mul}
 use Rattle.picking.proofs.arithmetic.consistent_mul.Statement.{statement}

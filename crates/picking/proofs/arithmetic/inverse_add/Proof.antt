@@ -1,3 +1,4 @@
+-- The difference modulo 2^64, cut to w bits, is the one solution.
 use borrow.Author.Needs.{needs}
 use Rattle.picking.proofs.ArithmeticLaws.{add-by}
 use Rattle.picking.proofs.arithmetic.inverse_add.Statement.{statement}

@@ -1,11 +1,12 @@
+-- By 0 only 0 is had; by 2^k times an odd number the low w - k bits are settled where 2^k divides t.
 use Prim.Native.Nat.{_*_, _%_, _^_}
 use native.Mathlib.Nat.{mod-lt}
-use lib.Pow.{pow-pos}
 use native.Mathlib.Omega.{arith}
+use lib.Pow.{pow-pos}
 use borrow.Author.Needs.{needs}
+use Rattle.words.specs.Zeros.{tail-lt}
 use Rattle.picking.proofs.ArithmeticLaws.{mul-zero, mul-no, mul-by}
 use Rattle.picking.proofs.BoxLaws.{same-by, solves-none}
-use Rattle.words.specs.Zeros.{tail-lt}
 use Rattle.picking.proofs.arithmetic.inverse_mul.Statement.{statement}
 use Rattle.picking.proofs.arithmetic.inverse_mul.Tie as tie
 

@@ -1,3 +1,4 @@
+-- Nothing is above the greatest word; else the interval from s + 1 on.
 use native.Mathlib.Nat.{le-refl}
 use native.Mathlib.Omega.{arith}
 use borrow.Author.Needs.{needs}

@@ -1,3 +1,4 @@
+-- One box: the ternary word itself.
 use borrow.Author.Needs.{needs}
 use Rattle.picking.proofs.BoxLaws.{word-solves}
 use Rattle.picking.proofs.basic.agreeing.Statement.{statement}

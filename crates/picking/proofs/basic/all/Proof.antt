@@ -1,6 +1,7 @@
+-- One box: the interval of all words.
+use Prim.Native.Nat.{zero-le, _-_, _^_}
 use native.Mathlib.Nat.{le-refl}
 use lib.Pow.{le-ones}
-use Prim.Native.Nat.{zero-le, _-_, _^_}
 use borrow.Author.Needs.{needs}
 use Rattle.picking.proofs.BoxLaws.{solves-by, span-solves}
 use Rattle.picking.proofs.basic.all.Statement.{statement}

@@ -1,3 +1,4 @@
+-- Next to an end of the words one interval is left, else two.
 use native.Mathlib.Nat.{le-refl}
 use native.Mathlib.Omega.{arith}
 use borrow.Author.Needs.{needs}

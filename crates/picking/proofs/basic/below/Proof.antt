@@ -1,3 +1,4 @@
+-- Nothing is below 0; else the interval up to s - 1.
 use native.Mathlib.Nat.{le-refl}
 use native.Mathlib.Omega.{arith}
 use borrow.Author.Needs.{needs}

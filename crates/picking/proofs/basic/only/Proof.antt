@@ -1,3 +1,4 @@
+-- The interval from c to c.
 use native.Mathlib.Nat.{le-refl}
 use native.Mathlib.Omega.{arith}
 use borrow.Author.Needs.{needs}

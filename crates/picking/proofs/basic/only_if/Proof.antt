@@ -1,3 +1,4 @@
+-- One value or nothing, by whether x is t.
 use native.Mathlib.Nat.{le-refl}
 use borrow.Author.Needs.{needs}
 use Rattle.picking.proofs.BoxLaws.{solves-by, solves-none}

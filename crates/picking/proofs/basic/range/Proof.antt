@@ -1,3 +1,4 @@
+-- One box: the interval.
 use borrow.Author.Needs.{needs}
 use Rattle.picking.proofs.BoxLaws.{span-solves}
 use Rattle.picking.proofs.basic.range.Statement.{statement}

@@ -1,3 +1,4 @@
+-- A value has all bits of t exactly if some other operand, t itself, takes it to t.
 use borrow.Author.Needs.{needs}
 use Rattle.picking.proofs.BitwiseLaws.{some-and-by}
 use Rattle.picking.proofs.bitwise.consistent_and.Statement.{statement}

@@ -1,3 +1,4 @@
+-- t has to lie in s; then v has the bits of t and, outside s, any others.
 use borrow.Author.Needs.{needs}
 use Rattle.picking.proofs.BitwiseLaws.{and-none, and-by}
 use Rattle.picking.proofs.BoxLaws.{solves-none}

@@ -1,3 +1,4 @@
+-- The complement of t is the one solution.
 use borrow.Author.Needs.{needs}
 use Rattle.picking.proofs.BitwiseLaws.{not-by}
 use Rattle.picking.proofs.bitwise.inverse_not.Statement.{statement}

@@ -1,3 +1,4 @@
+-- Xor undoes itself.
 use borrow.Author.Needs.{needs}
 use Rattle.picking.proofs.BitwiseLaws.{xor-by}
 use Rattle.picking.proofs.bitwise.inverse_xor.Statement.{statement}

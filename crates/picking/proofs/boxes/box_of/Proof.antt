@@ -1,3 +1,4 @@
+-- Variant by variant the box of that number; Fine keeps its shifts within the word.
 use native.Mathlib.Omega.{arith}
 use borrow.Author.Needs.{needs}
 use Rattle.words.specs.Shift.{one-shl}

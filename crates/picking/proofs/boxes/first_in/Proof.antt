@@ -1,10 +1,11 @@
-use mathlib.Core.Path.{_≡_, subst, sym, _∙_, ap}
+-- After j turns the best so far is the least of the first j boxes.
+use mathlib.Core.Path.{_≡_, subst, _∙_, ap}
 use Prim.Native.Nat.{ℕ, _≤_, _-_}
 use native.Mathlib.Omega.{arith}
 use borrow.Author.Needs.{needs}
 use Rattle.words.specs.Pick.{FirstFrom}
-use Rattle.picking.specs.declared.boxes.Box.{Box}
 use Rattle.picking.specs.Boxes.{In, met, countOf, ChosenOf}
+use Rattle.picking.specs.declared.boxes.Box.{Box}
 use Rattle.picking.proofs.BoxLaws.{none-yet, one-more}
 use Rattle.picking.proofs.boxes.first_in.Statement.{statement}
 use Rattle.picking.proofs.boxes.first_in.Tie as tie
@@ -48,7 +49,9 @@ loop-again c =
     let e : m .meet .result ≡ met _ (s .args .lo) (s .args .hi) = m .meet .ensures ∙ ap (λ (b : Box). met b (s .args .lo) (s .args .hi)) (m .before .box-of .ensures) in (
       omega arith,
       l .loop .inv .1,
-      rw (c .lesser-of .ensures) (one-more (s .args .set) (s .args .lo) (s .args .hi) (s .args .p) (l .loop .j) (l .loop .best) (f .first-in-box .result) (l .loop .inv .2) (subst (λ (b : Box). FirstFrom (In b) (s .args .p) (f .first-in-box .result)) e (f .first-in-box .ensures))),
+      rw (c .lesser-of .ensures)
+          (one-more (s .args .set) (s .args .lo) (s .args .hi) (s .args .p) (l .loop .j) (l .loop .best) (f .first-in-box .result) (l .loop .inv .2)
+          (subst (λ (b : Box). FirstFrom (In b) (s .args .p) (f .first-in-box .result)) e (f .first-in-box .ensures))),
     )
 
 returns : tie.Need-returns Inv-loop μ-loop

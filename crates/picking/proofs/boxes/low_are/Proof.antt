@@ -1,3 +1,4 @@
+-- The pair c, and ones over c.
 use mathlib.Core.Path.{_∙_, ap}
 use Prim.Native.Nat.{ℕ}
 use borrow.Author.Needs.{needs}

@@ -1,3 +1,4 @@
+-- A ternary word with a bit fixed both ways has no member; else the pick in the interval.
 use borrow.Author.Needs.{needs}
 use Rattle.picking.proofs.BoxLaws.{no-word}
 use Rattle.picking.proofs.boxes.pick_in_box.Statement.{statement}

@@ -1,3 +1,4 @@
+-- Nothing is lost by the shift, so that the interval is t and any j bits below.
 use mathlib.Core.Path.{_≡_}
 use Prim.Native.Nat.{_*_, _%_, _^_}
 use native.Mathlib.Nat.{mod-eq-of-lt}

@@ -1,3 +1,4 @@
+-- Not 0 takes the first branch.
 use borrow.Author.Needs.{needs}
 use Rattle.picking.proofs.ChoiceLaws.{branch-is}
 use Rattle.picking.proofs.choice.branch.Statement.{statement}

@@ -1,3 +1,4 @@
+-- The branch that is taken gives v itself, the other one what stands there.
 use mathlib.Core.Path.{_∙_, sym}
 use borrow.Author.Needs.{needs}
 use Rattle.picking.proofs.ChoiceLaws.{taken-by, left-by}

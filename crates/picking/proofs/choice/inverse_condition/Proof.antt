@@ -1,3 +1,4 @@
+-- By which of the two branches is t.
 use borrow.Author.Needs.{needs}
 use Rattle.picking.proofs.ChoiceLaws.{condition-off, condition-on, condition-any}
 use Rattle.picking.proofs.choice.inverse_condition.Statement.{statement}

@@ -1,3 +1,4 @@
+-- Position 0 is the condition.
 use borrow.Author.Needs.{needs}
 use Rattle.picking.proofs.choice.inverse_if.Statement.{statement}
 use Rattle.picking.proofs.choice.inverse_if.Tie as tie

@@ -1,6 +1,7 @@
+-- By the target and the position: all, all but the greatest, all but 0.
 use borrow.Author.Needs.{needs}
-use Rattle.picking.proofs.ComparisonLaws.{some-below-no, some-below, some-above, cut-ones, bit-one-of, position-one}
 use Rattle.picking.proofs.BoxLaws.{solves-all}
+use Rattle.picking.proofs.ComparisonLaws.{some-below-no, some-below, some-above, cut-ones, bit-one-of, position-one}
 use Rattle.picking.proofs.comparisons.consistent_below.Statement.{statement}
 use Rattle.picking.proofs.comparisons.consistent_below.Tie as tie
 

@@ -1,10 +1,11 @@
+-- By the target and the position: below s, above s, from s on, up to s.
+use mathlib.Core.Path.{_∙_, sym}
+use Prim.Native.Nat.{zero-le}
 use native.Mathlib.Nat.{le-refl}
 use lib.Pow.{le-ones}
-use Prim.Native.Nat.{zero-le}
-use mathlib.Core.Path.{_∙_, sym}
 use borrow.Author.Needs.{needs}
-use Rattle.picking.proofs.ComparisonLaws.{less-yes, yes-less, less-no, no-less, bit-zero-of, position-one}
 use Rattle.picking.proofs.BoxLaws.{solves-by}
+use Rattle.picking.proofs.ComparisonLaws.{less-yes, yes-less, less-no, no-less, bit-zero-of, position-one}
 use Rattle.picking.proofs.comparisons.inverse_below.Statement.{statement}
 use Rattle.picking.proofs.comparisons.inverse_below.Tie as tie
 

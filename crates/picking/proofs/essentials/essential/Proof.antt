@@ -1,9 +1,10 @@
-use native.Mathlib.Omega.{arith}
+-- By how many positions the kind has.
 use mathlib.Core.Path.{_≡_}
+use native.Mathlib.Omega.{arith}
 use borrow.Author.Needs.{needs}
+use Rattle.picking.proofs.EssentialLaws.{alone-one}
 use Rattle.picking.proofs.KindLaws.{two-left}
 use Rattle.picking.proofs.SpotLaws.{place}
-use Rattle.picking.proofs.EssentialLaws.{alone-one}
 use Rattle.picking.proofs.essentials.essential.Statement.{statement}
 use Rattle.picking.proofs.essentials.essential.Tie as tie
 

@@ -1,5 +1,6 @@
+-- The operator's value on the current operand, compared with t.
+use mathlib.Core.Path.{_∙_}
 use native.Mathlib.Omega.{arith}
-use mathlib.Core.Path.{_∙_, _≡_}
 use Rattle.picking.proofs.EssentialLaws.{alone, alone-fit, alone-value, alone-one}
 use Rattle.picking.proofs.essentials.essential_alone.Statement.{statement}
 use Rattle.picking.proofs.essentials.essential_alone.Tie as tie

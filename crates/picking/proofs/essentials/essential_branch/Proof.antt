@@ -1,7 +1,6 @@
+-- The law of a kept branch, with the pairs that the code reads.
 use borrow.Author.Needs.{needs}
 use Rattle.picking.proofs.EssentialLaws.{branch}
-use Rattle.words.specs.Decides.{Decides}
-use Rattle.picking.specs.Asks.{Had}
 use Rattle.picking.proofs.essentials.essential_branch.Statement.{statement}
 use Rattle.picking.proofs.essentials.essential_branch.Tie as tie
 

@@ -1,10 +1,10 @@
+-- The law of a kept condition, with the branch that it takes now.
 use mathlib.Core.Path.{sym}
-use Prim.Native.Nat.{ℕ}
 use borrow.Author.Needs.{needs}
-use Rattle.picking.proofs.EssentialLaws.{condition}
-use Rattle.picking.proofs.ChoiceLaws.{branch-low, branch-few}
 use Rattle.words.specs.Agree.{Agrees}
 use Rattle.words.specs.Decides.{Decides}
+use Rattle.picking.proofs.ChoiceLaws.{branch-low, branch-few}
+use Rattle.picking.proofs.EssentialLaws.{condition}
 use Rattle.picking.proofs.essentials.essential_condition.Statement.{statement}
 use Rattle.picking.proofs.essentials.essential_condition.Tie as tie
 

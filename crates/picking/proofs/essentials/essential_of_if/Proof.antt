@@ -1,4 +1,4 @@
-use mathlib.Core.Path.{_≡_}
+-- Position 0 is the condition.
 use borrow.Author.Needs.{needs}
 use Rattle.picking.proofs.essentials.essential_of_if.Statement.{statement}
 use Rattle.picking.proofs.essentials.essential_of_if.Tie as tie

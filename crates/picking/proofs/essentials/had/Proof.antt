@@ -1,5 +1,6 @@
-use lib.Dec.{eqb}
+-- Two ways, each a test of two facts.
 use mathlib.Core.Bool.{_&&_}
+use lib.Dec.{eqb}
 use borrow.Author.Needs.{needs}
 use Rattle.picking.proofs.EssentialLaws.{decides-and, decides-or, decides-eq}
 use Rattle.picking.proofs.essentials.had.Statement.{statement}

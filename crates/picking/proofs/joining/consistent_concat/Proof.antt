@@ -1,3 +1,4 @@
+-- The part of t at the position; the rest of t is the other operand.
 use borrow.Author.Needs.{needs}
 use Rattle.picking.proofs.JoiningLaws.{some-concat-by}
 use Rattle.picking.proofs.joining.consistent_concat.Statement.{statement}

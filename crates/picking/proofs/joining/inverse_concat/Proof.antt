@@ -1,3 +1,4 @@
+-- The part of t at the position, where the other operand is the rest of t.
 use borrow.Author.Needs.{needs}
 use Rattle.picking.proofs.JoiningLaws.{concat-by}
 use Rattle.picking.proofs.joining.inverse_concat.Statement.{statement}

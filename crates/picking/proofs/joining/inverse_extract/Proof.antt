@@ -1,3 +1,4 @@
+-- The ternary word that has t from bit k on.
 use borrow.Author.Needs.{needs}
 use Rattle.picking.proofs.JoiningLaws.{extract-by}
 use Rattle.picking.proofs.joining.inverse_extract.Statement.{statement}

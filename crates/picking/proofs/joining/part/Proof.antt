@@ -1,3 +1,4 @@
+-- The high part, else the low one.
 use mathlib.Core.Path.{_∙_}
 use borrow.Author.Needs.{needs}
 use Rattle.picking.proofs.JoiningLaws.{part-rest}

@@ -1,10 +1,11 @@
-use native.Mathlib.Omega.{arith}
+-- The width, the pair and the proposal are those of position i.
 use mathlib.Core.Path.{_∙_, ap, subst}
 use Prim.Native.Nat.{ℕ, _%_, _^_}
+use native.Mathlib.Omega.{arith}
 use borrow.Author.Needs.{needs}
 use Rattle.words.specs.Pick.{Picked}
-use Rattle.picking.specs.Spot.{at}
 use Rattle.picking.specs.Boxes.{Chosen}
+use Rattle.picking.specs.Spot.{at}
 use Rattle.picking.proofs.picks.pick_from.Statement.{statement}
 use Rattle.picking.proofs.picks.pick_from.Tie as tie
 

@@ -1,5 +1,6 @@
+-- The members of the set that agree with the pair are the inverse values.
 use borrow.Author.Needs.{needs}
-use Rattle.picking.proofs.SpotLaws.{picked-at}
+use Rattle.picking.proofs.SpotLaws.{inverse-picked}
 use Rattle.picking.proofs.picks.pick_inverse.Statement.{statement}
 use Rattle.picking.proofs.picks.pick_inverse.Tie as tie
 
@@ -10,9 +11,7 @@ pick-from-requires : tie.Need-pick-from-requires
 pick-from-requires c κs = search needs
 
 returns : tie.Need-returns
-returns c =
-    let s = c .before .before in
-    picked-at _ (c .pick-from .result) (s .pre) (c .before .inverse-set .ensures) (λ v g m. record { agrees = g; gives = m }) (λ v m. (m .agrees, m .gives)) (c .pick-from .ensures)
+returns c = inverse-picked _ (c .pick-from .result) (c .before .before .pre) (c .before .inverse-set .ensures) (c .pick-from .ensures)
 
 pub pick-inverse-spec : {M : Type 1} → statement M
 pick-inverse-spec = tie.close (tie.spec inverse-set-requires pick-from-requires returns)

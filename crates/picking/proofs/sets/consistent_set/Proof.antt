@@ -1,13 +1,13 @@
-use native.Mathlib.Omega.{arith}
-use mathlib.Core.Path.{refl, ap, sym}
+-- Arm by arm the operator's set, brought to the spot.
 use mathlib.Core.Logic.{⊎-elim}
-use Prim.Native.Nat.{ℕ, _-_, _*_, _%_, _^_}
-use native.Mathlib.Nat.{le-of-eq, mul-comm}
-use lib.Bits.{bitAnd, and-comm}
+use mathlib.Core.Path.{refl}
+use native.Mathlib.Omega.{arith}
+use lib.Bits.{and-comm}
 use borrow.Author.Needs.{needs}
-use Rattle.picking.proofs.SpotLaws.{slot-at, wide-at, place, both-wide, both-other, flag-target, equal-width, joined-at, side-at, count-at, reach-one, reach-two, reach-any, alike-some}
+use Rattle.picking.proofs.ArithmeticLaws.{product-comm}
 use Rattle.picking.proofs.BoxLaws.{solves-all}
 use Rattle.picking.proofs.KindLaws.{makeup-left}
+use Rattle.picking.proofs.SpotLaws.{slot-at, wide-at, place, count-at, flag-target, joined-at, reach-one, both-reach, equal-reach, side-reach, reach-any, alike-some}
 use Rattle.picking.proofs.sets.consistent_set.Statement.{statement}
 use Rattle.picking.proofs.sets.consistent_set.Tie as tie
 
@@ -55,42 +55,24 @@ returns c =
     reach-one (s .pre) (⊎-elim (count-at (s .pre .fair)) (count-at (s .pre .fair)) (c .before .match .keys1)) (c .inverse-set .ensures)
 
 returns-2 : tie.Need-returns-2
-returns-2 c =
-    let s = c .before .before in
-    let k = c .before .match .keys2 in
-    reach-two (s .pre) k refl (both-wide (s .pre) k refl) (both-other (s .pre) k refl) (alike-some bitAnd and-comm (s .args .i) (c .consistent-and .ensures))
+returns-2 c = both-reach (c .before .before .pre) (c .before .match .keys2) refl (alike-some and-comm (c .before .before .args .i) (c .consistent-and .ensures))
 
 returns-3 : tie.Need-returns-3
 returns-3 c =
     let s = c .before .before in
-    let k = c .before .match .keys3 in
-    reach-two (s .pre) k refl (both-wide (s .pre) k refl) (both-other (s .pre) k refl) (alike-some (λ x y. (x * y) % 2 ^ s .args .s .width) (λ x y. ap (λ (n : ℕ). n % 2 ^ s .args .s .width) (mul-comm x y)) (s .args .i) (c .consistent-mul .ensures))
+    both-reach (c .before .before .pre) (c .before .match .keys3) refl (alike-some (product-comm (s .args .s .width)) (s .args .i) (c .consistent-mul .ensures))
 
 returns-4 : tie.Need-returns-4
-returns-4 c =
-    let s = c .before .before in
-    let k = c .before .match .keys4 in
-    reach-two (s .pre) k refl (both-wide (s .pre) k refl) (both-other (s .pre) k refl) (c .consistent-shl .ensures)
+returns-4 c = both-reach (c .before .before .pre) (c .before .match .keys4) refl (c .consistent-shl .ensures)
 
 returns-5 : tie.Need-returns-5
-returns-5 c =
-    let s = c .before .before in
-    let k = c .before .match .keys5 in
-    reach-two (s .pre) k refl (both-wide (s .pre) k refl) (both-other (s .pre) k refl) (c .consistent-lshr .ensures)
+returns-5 c = both-reach (c .before .before .pre) (c .before .match .keys5) refl (c .consistent-lshr .ensures)
 
 returns-6 : tie.Need-returns-6
-returns-6 c =
-    let s = c .before .before .before in
-    let k = c .before .before .match .keys6 in
-    let e = equal-width (s .pre) k refl in
-    reach-two (s .pre) k refl (le-of-eq (e (s .args .i) (place (s .pre) k))) (e (1 - s .args .i) (omega arith)) (c .consistent-below .ensures)
+returns-6 c = let m = c .before .before in equal-reach (m .before .pre) (m .match .keys6) refl (c .consistent-below .ensures)
 
 returns-7 : tie.Need-returns-7
-returns-7 c =
-    let m = c .before .before .before in
-    let s = m .before in
-    let e = side-at (s .args .s) in
-    reach-two (s .pre) (m .match .keys7) refl (le-of-eq (sym (e (s .args .i) (place (s .pre) (m .match .keys7))))) (sym (e (1 - s .args .i) (omega arith))) (c .consistent-concat .ensures)
+returns-7 c = let m = c .before .before .before in side-reach (m .before .pre) (m .match .keys7) refl (c .consistent-concat .ensures)
 
 returns-8 : tie.Need-returns-8
 returns-8 c =

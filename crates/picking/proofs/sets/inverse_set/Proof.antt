@@ -1,13 +1,13 @@
+-- Arm by arm the operator's set, brought to the spot.
+use mathlib.Core.Path.{refl}
+use native.Mathlib.Nat.{le-of-eq, le-trans}
 use native.Mathlib.Omega.{arith}
-use mathlib.Core.Path.{_≡_, refl, ap, sym}
-use Prim.Native.Nat.{ℕ, _+_, _-_, _*_, _%_, _^_}
-use native.Mathlib.Nat.{le-of-eq, le-trans, add-comm, mul-comm}
-use lib.Bits.{bitAnd, bitXor, and-comm, xor-comm}
-use lib.Dec.{eqb}
+use lib.Bits.{and-comm, xor-comm}
 use borrow.Author.Needs.{needs}
-use Rattle.picking.proofs.SpotLaws.{rule-at, slot-at, wide-at, place, other-lt, both-wide, both-lt, flag-target, joined-at, side-at, arm, arm-one, arm-two, alike-by, equal-comm}
+use Rattle.picking.proofs.ArithmeticLaws.{sum-comm, product-comm}
+use Rattle.picking.proofs.ComparisonLaws.{equal-comm}
 use Rattle.picking.proofs.KindLaws.{extract-left}
-use Rattle.operators.specs.Meaning.{flag}
+use Rattle.picking.proofs.SpotLaws.{rule-at, slot-at, wide-at, place, both-lt, flag-target, joined-at, arm, arm-one, wide-arm, both-arm, side-lt, side-arm, alike-by}
 use Rattle.picking.proofs.sets.inverse_set.Statement.{statement}
 use Rattle.picking.proofs.sets.inverse_set.Tie as tie
 
@@ -29,22 +29,18 @@ inverse-add-requires c κs = search needs
 inverse-mul-requires : tie.Need-inverse-mul-requires
 inverse-mul-requires c κs =
     let s = c .before .before .before in
-    (record { wide = s .pre .fair .wide; fits = s .pre .target }, both-lt (s .pre) (c .match .keys5) refl (c .before .other .ensures))
+    (search needs, both-lt (s .pre) (c .match .keys5) refl (c .before .other .ensures))
 
 inverse-shl-requires : tie.Need-inverse-shl-requires
 inverse-shl-requires c κs =
     let s = c .before .before .before in
-    (place (s .pre) (c .match .keys6), record { wide = s .pre .fair .wide; fits = s .pre .target }, both-lt (s .pre) (c .match .keys6) refl (c .before .other .ensures))
+    (place (s .pre) (c .match .keys6), search needs, both-lt (s .pre) (c .match .keys6) refl (c .before .other .ensures))
 
 inverse-lshr-requires : tie.Need-inverse-lshr-requires
-inverse-lshr-requires c κs =
-    let s = c .before .before .before in
-    place (s .pre) (c .match .keys7)
+inverse-lshr-requires c κs = place (c .before .before .before .pre) (c .match .keys7)
 
 inverse-eq-requires : tie.Need-inverse-eq-requires
-inverse-eq-requires c κs =
-    let s = c .before .before .before in
-    flag-target (s .pre) (c .match .keys8) refl
+inverse-eq-requires c κs = flag-target (c .before .before .before .pre) (c .match .keys8) refl
 
 inverse-below-requires : tie.Need-inverse-below-requires
 inverse-below-requires c κs =
@@ -52,9 +48,7 @@ inverse-below-requires c κs =
     (place (s .pre) (c .match .keys9), flag-target (s .pre) (c .match .keys9) refl)
 
 inverse-if-requires : tie.Need-inverse-if-requires
-inverse-if-requires c κs =
-    let s = c .before .before .before in
-    place (s .pre) (c .match .keys10)
+inverse-if-requires c κs = place (c .before .before .before .pre) (c .match .keys10)
 
 cast-inverse-concat : tie.Need-cast-inverse-concat
 cast-inverse-concat c =
@@ -72,7 +66,7 @@ inverse-concat-requires : tie.Need-inverse-concat-requires
 inverse-concat-requires c κs =
     let m = c .before .before in
     let s = m .before .before .before in
-    (joined-at (s .pre) (m .match .keys11), rw (side-at (s .args .s) (1 - s .args .i) (omega arith)) (other-lt (s .pre) (m .match .keys11) (omega arith) (m .before .other .ensures)))
+    (joined-at (s .pre) (m .match .keys11), side-lt (s .pre) (m .match .keys11) refl (m .before .other .ensures))
 
 inverse-extract-requires : tie.Need-inverse-extract-requires
 inverse-extract-requires c κs =
@@ -89,42 +83,42 @@ returns c =
 returns-2 : tie.Need-returns-2
 returns-2 c =
     let s = c .before .before .before .before in
-    arm-two (s .pre) (c .before .match .keys2) refl (wide-at (s .pre)) (c .before .before .other .ensures) (alike-by bitAnd and-comm (s .args .i) (c .inverse-and .ensures))
+    wide-arm (s .pre) (c .before .match .keys2) refl (c .before .before .other .ensures) (alike-by and-comm (s .args .i) (c .inverse-and .ensures))
 
 returns-3 : tie.Need-returns-3
 returns-3 c =
     let s = c .before .before .before .before in
-    arm-two (s .pre) (c .before .match .keys3) refl (wide-at (s .pre)) (c .before .before .other .ensures) (alike-by bitXor xor-comm (s .args .i) (c .inverse-xor .ensures))
+    wide-arm (s .pre) (c .before .match .keys3) refl (c .before .before .other .ensures) (alike-by xor-comm (s .args .i) (c .inverse-xor .ensures))
 
 returns-4 : tie.Need-returns-4
 returns-4 c =
     let s = c .before .before .before .before in
-    arm-two (s .pre) (c .before .match .keys4) refl (both-wide (s .pre) (c .before .match .keys4) refl) (c .before .before .other .ensures) (alike-by (λ x y. (x + y) % 2 ^ s .args .s .width) (λ x y. ap (λ (n : ℕ). n % 2 ^ s .args .s .width) (add-comm x y)) (s .args .i) (c .inverse-add .ensures))
+    both-arm (s .pre) (c .before .match .keys4) refl (c .before .before .other .ensures) (alike-by (sum-comm (s .args .s .width)) (s .args .i) (c .inverse-add .ensures))
 
 returns-5 : tie.Need-returns-5
 returns-5 c =
     let s = c .before .before .before .before in
-    arm-two (s .pre) (c .before .match .keys5) refl (both-wide (s .pre) (c .before .match .keys5) refl) (c .before .before .other .ensures) (alike-by (λ x y. (x * y) % 2 ^ s .args .s .width) (λ x y. ap (λ (n : ℕ). n % 2 ^ s .args .s .width) (mul-comm x y)) (s .args .i) (c .inverse-mul .ensures))
+    both-arm (s .pre) (c .before .match .keys5) refl (c .before .before .other .ensures) (alike-by (product-comm (s .args .s .width)) (s .args .i) (c .inverse-mul .ensures))
 
 returns-6 : tie.Need-returns-6
 returns-6 c =
     let s = c .before .before .before .before in
-    arm-two (s .pre) (c .before .match .keys6) refl (both-wide (s .pre) (c .before .match .keys6) refl) (c .before .before .other .ensures) (c .inverse-shl .ensures)
+    both-arm (s .pre) (c .before .match .keys6) refl (c .before .before .other .ensures) (c .inverse-shl .ensures)
 
 returns-7 : tie.Need-returns-7
 returns-7 c =
     let s = c .before .before .before .before in
-    arm-two (s .pre) (c .before .match .keys7) refl (wide-at (s .pre)) (c .before .before .other .ensures) (c .inverse-lshr .ensures)
+    wide-arm (s .pre) (c .before .match .keys7) refl (c .before .before .other .ensures) (c .inverse-lshr .ensures)
 
 returns-8 : tie.Need-returns-8
 returns-8 c =
     let s = c .before .before .before .before in
-    arm-two (s .pre) (c .before .match .keys8) refl (wide-at (s .pre)) (c .before .before .other .ensures) (alike-by (λ x y. flag (eqb x y)) equal-comm (s .args .i) (c .inverse-eq .ensures))
+    wide-arm (s .pre) (c .before .match .keys8) refl (c .before .before .other .ensures) (alike-by equal-comm (s .args .i) (c .inverse-eq .ensures))
 
 returns-9 : tie.Need-returns-9
 returns-9 c =
     let s = c .before .before .before .before in
-    arm-two (s .pre) (c .before .match .keys9) refl (wide-at (s .pre)) (c .before .before .other .ensures) (c .inverse-below .ensures)
+    wide-arm (s .pre) (c .before .match .keys9) refl (c .before .before .other .ensures) (c .inverse-below .ensures)
 
 returns-10 : tie.Need-returns-10
 returns-10 c =
@@ -135,7 +129,7 @@ returns-11 : tie.Need-returns-11
 returns-11 c =
     let m = c .before .before .before in
     let s = m .before .before .before in
-    arm-two (s .pre) (m .match .keys11) refl (le-of-eq (sym (side-at (s .args .s) (s .args .i) (place (s .pre) (m .match .keys11))))) (m .before .other .ensures) (c .inverse-concat .ensures)
+    side-arm (s .pre) (m .match .keys11) refl (m .before .other .ensures) (c .inverse-concat .ensures)
 
 returns-12 : tie.Need-returns-12
 returns-12 c =

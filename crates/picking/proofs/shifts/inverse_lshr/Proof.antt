@@ -1,3 +1,4 @@
+-- Position 0 is the operand, position 1 the amount.
 use borrow.Author.Needs.{needs}
 use Rattle.picking.proofs.ComparisonLaws.{position-one}
 use Rattle.picking.proofs.shifts.inverse_lshr.Statement.{statement}

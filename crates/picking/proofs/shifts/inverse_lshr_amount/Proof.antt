@@ -1,10 +1,11 @@
+-- The amount is the difference of the highest bits, or any from where nothing is left.
+use mathlib.Core.Path.{_∙_, sym, ap, refl}
 use Prim.Native.Nat.{_/_, _^_, ℕ}
 use native.Mathlib.Nat.{le-refl, zero-div}
 use native.Mathlib.Omega.{arith}
-use mathlib.Core.Path.{_∙_, sym, ap, refl}
 use borrow.Author.Needs.{needs}
-use Rattle.picking.proofs.ShiftLaws.{lshr-gone, lshr-from, lshr-sum}
 use Rattle.picking.proofs.BoxLaws.{same-by, from-by, only-by, solves-none}
+use Rattle.picking.proofs.ShiftLaws.{lshr-gone, lshr-from, lshr-sum}
 use Rattle.picking.proofs.shifts.inverse_lshr_amount.Statement.{statement}
 use Rattle.picking.proofs.shifts.inverse_lshr_amount.Tie as tie
 
@@ -61,7 +62,8 @@ returns-4 c =
     let j = c .before .before in
     let k = j .before .before in
     let s = k .before .before in
-    only-by (λ v. s .args .x / 2 ^ v) (le-refl 64) (λ v m. let e = lshr-sum (k .top-bit .ensures) (j .before .if2 .left) (j .top-bit2 .ensures) v m in omega arith) refl (c .only-if .ensures)
+    only-by (λ v. s .args .x / 2 ^ v) (le-refl 64)
+    (λ v m. let e = lshr-sum (k .top-bit .ensures) (j .before .if2 .left) (j .top-bit2 .ensures) v m in omega arith) refl (c .only-if .ensures)
 
 pub inverse-lshr-amount-spec : {M : Type 1} → statement M
 inverse-lshr-amount-spec =

@@ -1,11 +1,12 @@
+-- The amount is the difference of the zeros at the end, or any from where nothing is left.
+use mathlib.Core.Path.{_∙_, sym}
 use Prim.Native.Nat.{_*_, _%_, _^_}
 use native.Mathlib.Omega.{arith}
-use mathlib.Core.Path.{_∙_, sym}
 use borrow.Author.Needs.{needs}
-use Rattle.picking.proofs.ShiftLaws.{zero-shl, shl-gone, shl-from, shl-sum}
-use Rattle.picking.proofs.BoxLaws.{same-by, from-by, only-by, solves-none}
 use Rattle.words.specs.Modular.{cut-cut}
 use Rattle.words.specs.Zeros.{tail-lt}
+use Rattle.picking.proofs.BoxLaws.{same-by, from-by, only-by, solves-none}
+use Rattle.picking.proofs.ShiftLaws.{zero-shl, shl-gone, shl-from, shl-sum}
 use Rattle.picking.proofs.shifts.inverse_shl_amount.Statement.{statement}
 use Rattle.picking.proofs.shifts.inverse_shl_amount.Tie as tie
 
@@ -36,7 +37,9 @@ returns-2 c =
     let k = c .before .before in
     let s = k .before .before in
     let e = c .before .if2 .taken in
-    from-by (λ v. s .args .x * 2 ^ v % 2 ^ s .args .w) (s .pre .0 .wide) (λ v l. shl-gone (s .pre .0 .wide) (k .low-bit .ensures) v l ∙ sym e) (λ v m. shl-from (s .pre .0 .wide) (k .low-bit .ensures) v (m ∙ e)) (c .range .ensures)
+    from-by (λ v. s .args .x * 2 ^ v % 2 ^ s .args .w) (s .pre .0 .wide)
+    (λ v l. shl-gone (s .pre .0 .wide) (k .low-bit .ensures) v l ∙ sym e)
+    (λ v m. shl-from (s .pre .0 .wide) (k .low-bit .ensures) v (m ∙ e)) (c .range .ensures)
 
 low-bit-requires-2 : tie.Need-low-bit-requires-2
 low-bit-requires-2 c κs = search needs
@@ -68,7 +71,9 @@ returns-4 c =
     let j = c .before .before .before in
     let k = j .before .before in
     let s = k .before .before in
-    only-by (λ v. s .args .x * 2 ^ v % 2 ^ s .args .w) (s .pre .0 .wide) (λ v m. let e = shl-sum (s .pre .0 .wide) (k .low-bit .ensures) (j .before .if2 .left) (j .low-bit2 .ensures) v m in omega arith) (c .before .cut .ensures ∙ cut-cut _ 64 _ (s .pre .0 .wide)) (c .only-if .ensures)
+    only-by (λ v. s .args .x * 2 ^ v % 2 ^ s .args .w) (s .pre .0 .wide)
+    (λ v m. let e = shl-sum (s .pre .0 .wide) (k .low-bit .ensures) (j .before .if2 .left) (j .low-bit2 .ensures) v m in omega arith)
+    (c .before .cut .ensures ∙ cut-cut _ 64 _ (s .pre .0 .wide)) (c .only-if .ensures)
 
 pub inverse-shl-amount-spec : {M : Type 1} → statement M
 inverse-shl-amount-spec =

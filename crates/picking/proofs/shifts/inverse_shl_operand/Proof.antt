@@ -1,10 +1,11 @@
+-- All is shifted out from w on; else the low bits are settled, if t's own are clear.
+use mathlib.Core.Path.{_∙_, sym}
 use Prim.Native.Nat.{_*_, _%_, _^_}
 use native.Mathlib.Nat.{le-of-lt}
 use native.Mathlib.Omega.{arith}
-use mathlib.Core.Path.{_∙_, sym}
 use borrow.Author.Needs.{needs}
-use Rattle.picking.proofs.ShiftLaws.{shl-past, shl-clear, shl-ends, shl-gives, part-lt}
 use Rattle.picking.proofs.BoxLaws.{same-by, solves-by, solves-none}
+use Rattle.picking.proofs.ShiftLaws.{shl-past, shl-clear, shl-ends, shl-gives, part-lt}
 use Rattle.picking.proofs.shifts.inverse_shl_operand.Statement.{statement}
 use Rattle.picking.proofs.shifts.inverse_shl_operand.Tie as tie
 
@@ -49,7 +50,9 @@ returns-3 c =
     let k = t .before in
     let s = k .before in
     let h = le-of-lt (k .if1 .left) in
-    solves-by (s .pre .wide) (c .ending .ensures) (λ v l m. shl-gives (s .args .w) (s .args .s) v (s .args .t) h (sym (t .cut .ensures) ∙ c .before .if2 .left) m) (λ v l m. shl-ends (s .args .w) (s .args .s) v (s .args .t) h m)
+    solves-by (s .pre .wide) (c .ending .ensures)
+    (λ v l m. shl-gives (s .args .w) (s .args .s) v (s .args .t) h (sym (t .cut .ensures) ∙ c .before .if2 .left) m)
+    (λ v l m. shl-ends (s .args .w) (s .args .s) v (s .args .t) h m)
 
 pub inverse-shl-operand-spec : {M : Type 1} → statement M
 inverse-shl-operand-spec =

@@ -1,3 +1,4 @@
+-- Position by position.
 use borrow.Author.Needs.{needs}
 use Rattle.picking.proofs.SpotLaws.{at-rest}
 use Rattle.picking.proofs.spot.at.Statement.{statement}

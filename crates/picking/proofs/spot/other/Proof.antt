@@ -1,4 +1,4 @@
-use mathlib.Core.Path.{_≡_, refl}
+-- 1 - i is b for a, and a for any other.
 use Rattle.picking.proofs.SpotLaws.{other-rest}
 use Rattle.picking.proofs.spot.other.Statement.{statement}
 use Rattle.picking.proofs.spot.other.Tie as tie
