@@ -113,9 +113,9 @@ module _ (s los his : List ℕ) (i : ℕ) where
       let here : GoodNode P i = g .node i (f .inside) in
       let long = length-fillUp P i in
       let ternary : (j : ℕ) → j < count P i → Ternary (P .width (arg P i j)) (pairIn both (arg P i j)) =
-          λ j b.
-            subst (λ (w : Pairs). Ternary (P .width (arg P i j)) (pairIn w (arg P i j))) (sym (f .so-far))
-            (fillUp-ternary P g i (omega (arith, f .inside)) (arg P i j) (here .below j b)) in
+      λ j b.
+      subst (λ (w : Pairs). Ternary (P .width (arg P i j)) (pairIn w (arg P i j))) (sym (f .so-far))
+      (fillUp-ternary P g i (omega (arith, f .inside)) (arg P i j) (here .below j b)) in
       record {
         below-lo = λ j h. omega (arith, here .below j h, f .inside, g .few, ap (λ (w : Pairs). length (w .los)) (f .so-far), long .0);
         below-hi = λ j h. omega (arith, here .below j h, f .inside, g .few, ap (λ (w : Pairs). length (w .his)) (f .so-far), long .1);

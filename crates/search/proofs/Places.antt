@@ -113,7 +113,7 @@ module _ {s vs tape : List ℕ} {from start made n t k steps : ℕ} (o : On s vs
 
     -- the step that the code makes, which picks at position i what it found
     module _ {los his : List ℕ} (W : Searching s los his vs) {S : Spot} (q : S ≡ spotIn s los his vs d) (i : ℕ) (found : Found)
-      (st : Step S t (getD tape k 0) (getD tape (k + 1) 0) (outOf i found)) (h : k + 2 ≤ length tape) where
+        (st : Step S t (getD tape k 0) (getD tape (k + 1) 0) (outOf i found)) (h : k + 2 ≤ length tape) where
       made-step : {p : Out} → outOf i found ≡ p → Step (spot (problem s) vs n) t (getD (drop k tape) 0 0) (getD (drop k tape) 1 0) p
       made-step z = rw (first-word tape k, second-word tape k, ← z, ← spot-is s los his vs n (W .filled), ← e, ← q) st
 
@@ -121,7 +121,7 @@ module _ {s vs tape : List ℕ} {from start made n t k steps : ℕ} (o : On s vs
       walk-stuck z =
           o .onto _
           (subst (λ (l : List ℕ). Walk (problem s) vs n t (drop k tape) steps (stuck (steps + 1) l)) (drop-drop 2 k tape)
-            (stops {ws = drop k tape} no-variable (omega (arith, left tape k)) (made-step (ap (outOf i) z))))
+          (stops {ws = drop k tape} no-variable (omega (arith, left tape k)) (made-step (ap (outOf i) z))))
 
       module _ {v m : ℕ} (z : found ≡ At v) (a : m ≡ at (ids d) i) where
         is-arg : m ≡ arg (problem s) n i
@@ -149,8 +149,8 @@ module _ {s vs tape : List ℕ} {from start made n t k steps : ℕ} (o : On s vs
                   λ r w.
                   o .onto r
                   (onward {ws = drop k tape} no-variable (omega (arith, left tape k)) goes-on
-                    (subst (λ (l : List ℕ). Walk (problem s) vs (arg (problem s) n i) v l (steps + 1) r) (sym (drop-drop 2 k tape))
-                      (rw is-arg at w)));
+                  (subst (λ (l : List ℕ). Walk (problem s) vs (arg (problem s) n i) v l (steps + 1) r) (sym (drop-drop 2 k tape))
+                  (rw is-arg at w)));
             }
 
 -- ---- counts
@@ -179,13 +179,14 @@ nth-at :
     {A : ℕ → Type 0} {n : ℕ} {us : List ℕ} (k j : ℕ) → Count A j k → A j → Lists A n us → j < n → (k < length us) × (getD us k 0 ≡ j)
 nth-at k j m b done h = absurd (not-suc-le-zero h)
 nth-at {A} k j m b (keep {n} {l} r a) h =
-    elim (ℕ-discrete j n)
-    [ yes e ↦
-        let q : length l ≡ k = ap length (lists-unique (subst (λ (i : ℕ). Lists A i l) (sym e) r) (m .lists)) ∙ m .is in
-        (simp length-append (omega arith), ap (λ (i : ℕ). getD (l ++ (n ∷ [])) i 0) (sym q) ∙ getD-append-seam l n [] 0 ∙ sym e)
-    | no x ↦
-        let w : (k < length l) × (getD l k 0 ≡ j) = nth-at k j m b r (omega arith) in
-        (simp length-append (omega arith), List·getD-append l (n ∷ []) 0 k (w .0) ∙ w .1) ]
+    elim (ℕ-discrete j n) [
+      | yes e ↦
+          let q : length l ≡ k = ap length (lists-unique (subst (λ (i : ℕ). Lists A i l) (sym e) r) (m .lists)) ∙ m .is in
+          (simp length-append (omega arith), ap (λ (i : ℕ). getD (l ++ (n ∷ [])) i 0) (sym q) ∙ getD-append-seam l n [] 0 ∙ sym e)
+      | no x ↦
+          let w : (k < length l) × (getD l k 0 ≡ j) = nth-at k j m b r (omega arith) in
+          (simp length-append (omega arith), List·getD-append l (n ∷ []) 0 k (w .0) ∙ w .1)
+    ]
 nth-at {A} k j m b (skip {n} {l} r x) h = nth-at k j m b r (let ne : j ≡ n → ⊥ = λ e. x (subst A e b) in omega arith)
 
 -- ---- a move
@@ -193,9 +194,10 @@ nth-at {A} k j m b (skip {n} {l} r x) h = nth-at k j m b r (let ne : j ≡ n →
 module _ (P : Prob) (vs : List ℕ) where
   pub no-more : Count (Unsatisfied P vs) (P .entries) 0 → AllOne P vs
   no-more c j l =
-      elim (ℕ-discrete (getD vs (P .root j) 0) 1)
-      [ yes e ↦ e
-      | no x ↦ absurd (let st : Stands j (c .list) = lists-find j (c .lists) l x in omega (arith, st .place-lt, c .is)) ]
+      elim (ℕ-discrete (getD vs (P .root j) 0) 1) [
+        | yes e ↦ e
+        | no x ↦ absurd (let st : Stands j (c .list) = lists-find j (c .lists) l x in omega (arith, st .place-lt, c .is))
+      ]
 
   pub some-left : {u : ℕ} → 0 < u → Count (Unsatisfied P vs) (P .entries) u → AllOne P vs → ⊥
   some-left h c y =
@@ -219,7 +221,7 @@ module _ (P : Prob) (vs : List ℕ) where
 
 -- the walk that a move makes, from root entry j
 module _ {s los his vs : List ℕ} (tape : List ℕ) (k : ℕ) {u made j r : ℕ} (W : Searching s los his vs) (c : Count (Unsatisfied (problem s) vs) (problem s .entries) u)
-  (m : Nth (Unsatisfied (problem s) vs) (problem s .entries) (getD tape k 0 % u) j) (e : r ≡ rootAt s j) (h : k < length tape) where
+    (m : Nth (Unsatisfied (problem s) vs) (problem s .entries) (getD tape k 0 % u) j) (e : r ≡ rootAt s j) (h : k < length tape) where
   pub move-walking : made ≤ k → Walking s los his vs tape r (k + 1) made
   unfolding problem
   move-walking l =

@@ -41,7 +41,7 @@ pub going-start : {s los his start tape : List ℕ} {B : ℕ} → Searching s lo
 going-start W = record { searching = W; long = refl; most = omega arith; on-tape = omega arith; words = refl; onto = λ out a x. x }
 
 module _ {s los his start tape : List ℕ} {B : ℕ} {vs : List ℕ} {m steps k : ℕ} (o : Going s los his start tape B vs m steps k)
-  {u : ℕ} (c : Count (Unsatisfied (problem s) vs) (problem s .entries) u) where
+    {u : ℕ} (c : Count (Unsatisfied (problem s) vs) (problem s .entries) u) where
   pub going-model : u ≡ 0 → Run (problem s) B start tape 0 0 vs (answer m steps Verdict.Model)
   going-model z = o .onto _ _ (model (no-more (problem s) vs (rw z at c)))
 
@@ -108,7 +108,7 @@ then-assoc Accepted y z = refl
 then-assoc (Refused r) y z = refl
 
 module _ (s vs : List ℕ) (x y : Checked) (n : ℕ) (e : x ≡ checked s) (q : n ≡ nodeCount s)
-  (h : y ≡ (x then cond (ltb (length vs) n) (refusal 14 0) Accepted)) where
+    (h : y ≡ (x then cond (ltb (length vs) n) (refusal 14 0) Accepted)) where
   -- what the problem check and line 14 give
   first-two : y ≡ (checked s then placesFault s vs)
   unfolding placesFault firstOf

@@ -54,9 +54,10 @@ some-next A i true e s d = record { at = s .at; at-lt = omega (arith, s .at-lt);
 some-next A i false true s d = record { at = i; at-lt = omega arith; holds = d }
 some-next A i false false s d =
     λ z.
-      elim (ℕ-discrete (z .at) i)
-      [ yes q ↦ d (subst A q (z .holds))
-      | no x ↦ s (record { at = z .at; at-lt = omega (arith, z .at-lt); holds = z .holds }) ]
+    elim (ℕ-discrete (z .at) i) [
+      | yes q ↦ d (subst A q (z .holds))
+      | no x ↦ s (record { at = z .at; at-lt = omega (arith, z .at-lt); holds = z .holds })
+    ]
 
 pub room-two : (S : Spot) {p : Positions} {i : ℕ} → Room p i → i < positions S → Room p 2
 room-two S r h = record { few = omega (arith, r .few, few-positions (S .kind)); size = r .size }

@@ -2,7 +2,6 @@
 ghost use mathlib.Core.Path.{_≡_};
 ghost use Rattle.search.specs.Problem.{problem, valueOf, evaluate as evaluated};
 ghost use Rattle.search.specs.Inner.{Operated, gives, Evaluable, Assigned};
-
 use crate::operands::held;
 use crate::operands::operator;
 use problem::Node;

@@ -5,7 +5,6 @@ ghost use lib.ListN.{drop, getD, length};
 ghost use Rattle.search.specs.Problem.{problem};
 ghost use Rattle.search.specs.Run.{Walk, Move, Unsatisfied};
 ghost use Rattle.search.specs.Inner.{Searching, Walking, Moving, endOf, Placed, Count, Nth};
-
 use crate::operands::operand;
 use crate::spot::spot_of;
 use crate::step::step;
@@ -120,5 +119,14 @@ pub(crate) fn make_move(
     }
     let k = tape[at] % count;
     let j = nth_unsatisfied(bytes, values, count, k);
-    walk(bytes, los, his, values, tape, root_at(bytes, j), at + 1, made)
+    walk(
+        bytes,
+        los,
+        his,
+        values,
+        tape,
+        root_at(bytes, j),
+        at + 1,
+        made,
+    )
 }

@@ -8,7 +8,6 @@ ghost use Rattle.picking.specs.Spot.{at};
 ghost use Rattle.problem.specs.Layout.{widthAt};
 ghost use Rattle.search.specs.Problem.{oneOf};
 ghost use Rattle.search.specs.Inner.{ids, OperandsBelow, heldIn, widthsIn, operatorIn};
-
 use operators::Op;
 use operators::shape_of;
 use picking::Three;

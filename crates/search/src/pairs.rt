@@ -4,7 +4,6 @@ ghost use Rattle.words.specs.Decides.{Decides};
 ghost use Rattle.search.specs.Problem.{problem, pairAt};
 ghost use Rattle.search.specs.Run.{ClosedRoot};
 ghost use Rattle.search.specs.Inner.{Narrowed, derives, Fillable, pairsOf, Unfilled, Filled};
-
 use crate::operands::held;
 use crate::operands::operator;
 use operators::Pair;

@@ -1,14 +1,19 @@
 // A node as picking sees it, taken out of its problem.
 ghost use mathlib.Core.Path.{_≡_};
 ghost use Rattle.search.specs.Inner.{Spotted, spotIn};
-
 use crate::operands::held;
 use crate::operands::widths_of;
 use picking::Spot;
 use picking::Three;
 use problem::Node;
 
-pub(crate) fn spot_of(bytes: &[u8], los: &[u64; 1024], his: &[u64; 1024], values: &[u64], n: Node) -> Spot
+pub(crate) fn spot_of(
+    bytes: &[u8],
+    los: &[u64; 1024],
+    his: &[u64; 1024],
+    values: &[u64],
+    n: Node,
+) -> Spot
     requires { ⌜ Spotted (now los) (now his) (now values) n ⌝ }
     ensures { λ r. ⌜ r ≡ spotIn (now (bytes .entry)) (now (los .entry)) (now (his .entry)) (now (values .entry)) n ⌝ }
 {

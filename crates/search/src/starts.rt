@@ -7,7 +7,6 @@ ghost use Rattle.problem.specs.Layout.{nodeCount};
 ghost use Rattle.problem.specs.Refusals.{checked, firstBelow};
 ghost use Rattle.search.specs.Call.{startFault, refusals};
 ghost use Rattle.search.specs.Inner.{Lent};
-
 use problem::Checked;
 use problem::check;
 use problem::line;

@@ -4,7 +4,6 @@ ghost use Rattle.words.specs.Decides.{Decides};
 ghost use Rattle.picking.specs.Spot.{at, Asked};
 ghost use Rattle.search.specs.Step.{Step as StepMade, Follows};
 ghost use Rattle.search.specs.Inner.{outOf, Room, Kept, Open, Stepping, Candidates};
-
 use operators::shape_of;
 use picking::Spot;
 use picking::Three;

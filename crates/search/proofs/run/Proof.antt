@@ -40,7 +40,7 @@ same-length-2 : tie.Need-same-length-2
 same-length-2 c = search needs
 
 returns-2 : tie.Need-returns-2
-returns-2 c =     rw (c .before .before .before .before .before .before .before .evaluate .ensures, c .settled .ensures) (runs (sym (c .before .before .before .before .before .before .before .before .before .before .before .before .before .before .refusal-of .ensures) ∙ c .before .before .before .before .before .before .before .before .before .before .before .before .enum-told .given .1) (closed (decides-yes _ _ (c .before .before .closed-root .ensures) (c .before .if1 .taken))))
+returns-2 c = rw (c .before .before .before .before .before .before .before .evaluate .ensures, c .settled .ensures) (runs (sym (c .before .before .before .before .before .before .before .before .before .before .before .before .before .before .refusal-of .ensures) ∙ c .before .before .before .before .before .before .before .before .before .before .before .before .enum-told .given .1) (closed (decides-yes _ _ (c .before .before .closed-root .ensures) (c .before .if1 .taken))))
 
 search-requires : tie.Need-search-requires
 search-requires c κs = begins _ _ (sym (c .before .before .before .before .before .before .before .before .before .before .before .before .before .before .before .before .refusal-of .ensures) ∙ c .before .before .before .before .before .before .before .before .before .before .before .before .before .before .enum-told .given .1) (c .before .before .before .before .before .before .before .before .before .before .before .fill .ensures) (decides-no _ _ (c .before .before .before .before .closed-root .ensures) (c .before .before .before .if1 .left)) (c .before .before .before .before .before .before .before .before .before .evaluate .ensures)
@@ -49,7 +49,7 @@ same-length-3 : tie.Need-same-length-3
 same-length-3 c = search needs
 
 returns-3 : tie.Need-returns-3
-returns-3 c =     runs (sym (c .before .before .before .before .before .before .before .before .before .before .before .before .before .before .before .before .before .before .before .refusal-of .ensures) ∙ c .before .before .before .before .before .before .before .before .before .before .before .before .before .before .before .before .before .enum-told .given .1)
+returns-3 c = runs (sym (c .before .before .before .before .before .before .before .before .before .before .before .before .before .before .before .before .before .before .before .refusal-of .ensures) ∙ c .before .before .before .before .before .before .before .before .before .before .before .before .before .before .before .before .before .enum-told .given .1)
     (searched (decides-no _ _ (c .before .before .before .before .before .before .before .closed-root .ensures) (c .before .before .before .before .before .before .if1 .left)) (rw (c .before .before .before .before .before .before .before .before .before .before .before .before .evaluate .ensures) at (c .before .before .search .ensures)))
 
 pub run-spec : {M : Type 1} → statement M

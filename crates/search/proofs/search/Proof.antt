@@ -40,7 +40,7 @@ add-more : tie.Need-add-more Inv-loop μ-loop
 add-more c = omega (arith, c .if2 .left, c .before .before .before .before .before .before .before .before .fits .budget)
 
 make-move-requires : tie.Need-make-move-requires Inv-loop μ-loop
-make-move-requires c κs =     let o = c .before .before .before .before .before .loop .inv in
+make-move-requires c κs = let o = c .before .before .before .before .before .loop .inv in
     (o .searching, c .before .before .before .count-unsatisfied .ensures, omega (arith, c .before .before .if1 .left), o .on-tape, omega (arith, o .words))
 
 enum-known-stop : tie.Need-enum-known-stop Inv-loop μ-loop
@@ -50,15 +50,15 @@ cast-values : tie.Need-cast-values Inv-loop μ-loop
 cast-values c = search needs
 
 mul-values : tie.Need-mul-values Inv-loop μ-loop
-mul-values c =     let f = rw (c .before .stop .given .1) at (c .before .before .before .make-move .ensures) in
+mul-values c = let f = rw (c .before .stop .given .1) at (c .before .before .before .make-move .ensures) in
     omega (arith, place-lt (c .before .before .before .before .before .before .before .before .before .loop .inv) (c .before .before .before .before .before .before .before .count-unsatisfied .ensures) (omega (arith, c .before .before .before .before .before .before .if1 .left)) (omega (arith, c .before .before .before .before .before .if2 .left)) (f .1) (f .0), c .before .before .before .before .before .before .before .before .before .loop .inv .long, c .before .before .before .before .before .before .before .before .before .before .before .before .before .good .1 .1 .1 .0)
 
 slice-write-values : tie.Need-slice-write-values Inv-loop μ-loop
-slice-write-values c =     let f = rw (c .before .stop .given .1) at (c .before .before .before .make-move .ensures) in
+slice-write-values c = let f = rw (c .before .stop .given .1) at (c .before .before .before .make-move .ensures) in
     place-lt (c .before .before .before .before .before .before .before .before .before .loop .inv) (c .before .before .before .before .before .before .before .count-unsatisfied .ensures) (omega (arith, c .before .before .before .before .before .before .if1 .left)) (omega (arith, c .before .before .before .before .before .if2 .left)) (f .1) (f .0)
 
 evaluate-requires : tie.Need-evaluate-requires Inv-loop μ-loop
-evaluate-requires c κs =     let f = rw (c .before .before .stop .given .1) at (c .before .before .before .before .make-move .ensures) in
+evaluate-requires c κs = let f = rw (c .before .before .stop .given .1) at (c .before .before .before .before .make-move .ensures) in
     assigned (c .before .before .before .before .before .before .before .before .before .before .loop .inv) (c .before .before .before .before .before .before .before .before .count-unsatisfied .ensures) (omega (arith, c .before .before .before .before .before .before .before .if1 .left)) (omega (arith, c .before .before .before .before .before .before .if2 .left)) (f .1) (f .0)
 
 enum-known-stop-2 : tie.Need-enum-known-stop-2 Inv-loop μ-loop
@@ -74,21 +74,21 @@ same-length-3 : tie.Need-same-length-3 Inv-loop μ-loop
 same-length-3 c = c .before .before .before .before .before .before .before .before .before .loop .inv .long
 
 returns-3 : tie.Need-returns-3 Inv-loop μ-loop
-returns-3 c =     let f = rw (c .before .enum-told .given .1) at (c .before .before .before .make-move .ensures) in
+returns-3 c = let f = rw (c .before .enum-told .given .1) at (c .before .before .before .make-move .ensures) in
     rw (c .settled3 .ensures) (going-ended (c .before .before .before .before .before .before .before .before .before .loop .inv) (c .before .before .before .before .before .before .before .count-unsatisfied .ensures) (omega (arith, c .before .before .before .before .before .before .if1 .left)) (omega (arith, c .before .before .before .before .before .if2 .left)) (f .0))
 
 loop-less : tie.Need-loop-less Inv-loop μ-loop
 loop-less c = omega (arith, c .before .before .before .before .before .before .before .before .before .if2 .left)
 
 loop-again : tie.Need-loop-again Inv-loop μ-loop
-loop-again c =     let f = rw (c .before .before .before .before .before .stop .given .1) at (c .before .before .before .before .before .before .before .make-move .ensures) in
+loop-again c = let f = rw (c .before .before .before .before .before .stop .given .1) at (c .before .before .before .before .before .before .before .make-move .ensures) in
     going-moved (c .before .before .before .before .before .before .before .before .before .before .before .before .before .loop .inv) (c .before .before .before .before .before .before .before .before .before .before .before .count-unsatisfied .ensures) (omega (arith, c .before .before .before .before .before .before .before .before .before .before .if1 .left)) (omega (arith, c .before .before .before .before .before .before .before .before .before .if2 .left)) (f .1) (f .0) (c .before .before .evaluate .ensures)
 
 loop-less-2 : tie.Need-loop-less-2 Inv-loop μ-loop
 loop-less-2 c = omega (arith, c .before .before .before .before .before .if2 .left)
 
 loop-again-2 : tie.Need-loop-again-2 Inv-loop μ-loop
-loop-again-2 c =     let f = rw (c .before .stop2 .given .1) at (c .before .before .before .make-move .ensures) in
+loop-again-2 c = let f = rw (c .before .stop2 .given .1) at (c .before .before .before .make-move .ensures) in
     going-held (c .before .before .before .before .before .before .before .before .before .loop .inv) (c .before .before .before .before .before .before .before .count-unsatisfied .ensures) (omega (arith, c .before .before .before .before .before .before .if1 .left)) (omega (arith, c .before .before .before .before .before .if2 .left)) (f .1) (f .0)
 
 pub search-spec : {M : Type 1} → statement M

@@ -26,7 +26,7 @@ unfolding problem
 loop-holds c = (c .node-count .ensures, omega arith, sym (evalUp-none _ _))
 
 value-at-requires : tie.Need-value-at-requires Inv-loop μ-loop
-value-at-requires c κs =     evaluable _ _ _ _ (c .before .before .before .before .before .before .pre) (omega arith) (c .before .before .loop .inv .2)
+value-at-requires c κs = evaluable _ _ _ _ (c .before .before .before .before .before .before .pre) (omega arith) (c .before .before .loop .inv .2)
 
 cast-values : tie.Need-cast-values Inv-loop μ-loop
 cast-values c = search needs
@@ -35,7 +35,7 @@ mul-values : tie.Need-mul-values Inv-loop μ-loop
 mul-values c = search needs
 
 slice-write-values : tie.Need-slice-write-values Inv-loop μ-loop
-slice-write-values c =     let st = c .before .before .before in
+slice-write-values c = let st = c .before .before .before in
     let e = evaluable _ _ _ _ (st .before .before .before .before .pre) (omega arith) (st .loop .inv .2) in
     omega (arith, e .places, e .inside)
 

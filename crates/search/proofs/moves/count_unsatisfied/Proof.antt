@@ -48,7 +48,7 @@ loop-less : tie.Need-loop-less Inv-loop μ-loop
 loop-less c = search needs
 
 loop-again : tie.Need-loop-again Inv-loop μ-loop
-loop-again c =     let st = c .before .before .before .before in
+loop-again c = let st = c .before .before .before .before in
     let v = root-value _ (c .before .before .before .before .before .before .before .before .args .values .now) _ _ (c .before .before .root-at .ensures) in
     ⊎-elim
     (λ w. (st .loop .inv .0, omega arith, omega arith, rw (w .1) (count-keep _ (st .loop .inv .3) (λ q. w .0 .taken (v ∙ q)))))
@@ -56,7 +56,7 @@ loop-again c =     let st = c .before .before .before .before in
     (c .if1 .came)
 
 returns : tie.Need-returns Inv-loop μ-loop
-returns c =     let e : c .before .loop .j ≡ problem (c .before .before .before .before .before .args .bytes .now) .entries = omega arith in
+returns c = let e : c .before .loop .j ≡ problem (c .before .before .before .before .before .args .bytes .now) .entries = omega arith in
     rw e at (c .before .loop .inv .3)
 
 pub count-unsatisfied-spec : {M : Type 1} → statement M

@@ -38,7 +38,7 @@ shared-slice-read-if1 : tie.Need-shared-slice-read-if1 Inv-loop μ-loop
 shared-slice-read-if1 c = root-place _ _ _ _ (c .before .before .before .before .before .before .before .pre .0) (omega arith) (c .before .root-at .ensures)
 
 returns : tie.Need-returns Inv-loop μ-loop
-returns c =     let st = c .before .before .before .before .before in
+returns c = let st = c .before .before .before .before .before in
     let v = root-value _ (c .before .before .before .before .before .before .before .before .before .args .values .now) _ _ (c .before .before .before .root-at .ensures) in
     record { inside = omega arith; member = λ q. c .before .if1 .taken (v ∙ q); before = rw (c .if2 .taken) at (st .loop .inv .3) }
 
@@ -52,7 +52,7 @@ loop-less : tie.Need-loop-less Inv-loop μ-loop
 loop-less c = search needs
 
 loop-again : tie.Need-loop-again Inv-loop μ-loop
-loop-again c =     let st = c .before .before .before .before in
+loop-again c = let st = c .before .before .before .before in
     let v = root-value _ (c .before .before .before .before .before .before .before .before .args .values .now) _ _ (c .before .before .root-at .ensures) in
     ⊎-elim
     (λ w. (st .loop .inv .0, omega arith, omega arith, rw (w .2) (count-keep _ (st .loop .inv .3) (λ q. w .0 .taken (v ∙ q)))))

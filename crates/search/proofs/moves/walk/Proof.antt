@@ -62,19 +62,21 @@ enum-told : tie.Need-enum-told Inv-loop μ-loop
 enum-told c = search needs
 
 returns-3 : tie.Need-returns-3 Inv-loop μ-loop
-returns-3 c =     ( walk-stuck (c .before .before .before .before .before .before .before .before .before .before .loop .inv) (c .before .before .before .before .before .before .before .before .before .node-at .ensures) (c .before .before .before .before .before .before .before .if1 .left) (c .before .before .before .before .before .before .before .before .before .before .before .before .before .before .pre .searching) (c .before .before .before .before .before .spot-of .ensures) _ _ (c .before .before .step .ensures) (omega (arith, c .before .before .before .before .before .before .before .before .before .before .loop .inv .on-tape, c .before .before .before .before .before .before .if2 .left))
-      (c .enum-told .given .1)
-    , (omega (arith, c .before .before .before .before .before .before .before .before .before .before .loop .inv .on-tape, c .before .before .before .before .before .before .if2 .left), omega (arith, c .before .before .before .before .before .before .before .before .before .before .loop .inv .words)) )
+returns-3 c = (
+  walk-stuck (c .before .before .before .before .before .before .before .before .before .before .loop .inv) (c .before .before .before .before .before .before .before .before .before .node-at .ensures) (c .before .before .before .before .before .before .before .if1 .left) (c .before .before .before .before .before .before .before .before .before .before .before .before .before .before .pre .searching) (c .before .before .before .before .before .spot-of .ensures) _ _ (c .before .before .step .ensures) (omega (arith, c .before .before .before .before .before .before .before .before .before .before .loop .inv .on-tape, c .before .before .before .before .before .before .if2 .left))
+      (c .enum-told .given .1),
+  (omega (arith, c .before .before .before .before .before .before .before .before .before .before .loop .inv .on-tape, c .before .before .before .before .before .before .if2 .left), omega (arith, c .before .before .before .before .before .before .before .before .before .before .loop .inv .words)),
+)
 
 operand-requires : tie.Need-operand-requires Inv-loop μ-loop
 operand-requires c κs = search needs
 
 loop-less : tie.Need-loop-less Inv-loop μ-loop
-loop-less c =     walk-below (c .before .before .before .before .before .before .before .before .before .before .before .before .loop .inv) (c .before .before .before .before .before .before .before .before .before .before .before .node-at .ensures) (c .before .before .before .before .before .before .before .before .before .if1 .left) (c .before .before .before .before .before .before .before .before .before .before .before .before .before .before .before .before .pre .searching) (c .before .before .before .before .before .before .before .spot-of .ensures) _ _ (c .before .before .before .before .step .ensures) (omega (arith, c .before .before .before .before .before .before .before .before .before .before .before .before .loop .inv .on-tape, c .before .before .before .before .before .before .before .before .if2 .left))
+loop-less c = walk-below (c .before .before .before .before .before .before .before .before .before .before .before .before .loop .inv) (c .before .before .before .before .before .before .before .before .before .before .before .node-at .ensures) (c .before .before .before .before .before .before .before .before .before .if1 .left) (c .before .before .before .before .before .before .before .before .before .before .before .before .before .before .before .before .pre .searching) (c .before .before .before .before .before .before .before .spot-of .ensures) _ _ (c .before .before .before .before .step .ensures) (omega (arith, c .before .before .before .before .before .before .before .before .before .before .before .before .loop .inv .on-tape, c .before .before .before .before .before .before .before .before .if2 .left))
     (c .before .before .found .given .1) (c .operand .ensures)
 
 loop-again : tie.Need-loop-again Inv-loop μ-loop
-loop-again c =     walk-on (c .before .before .before .before .before .before .before .before .before .before .before .before .loop .inv) (c .before .before .before .before .before .before .before .before .before .before .before .node-at .ensures) (c .before .before .before .before .before .before .before .before .before .if1 .left) (c .before .before .before .before .before .before .before .before .before .before .before .before .before .before .before .before .pre .searching) (c .before .before .before .before .before .before .before .spot-of .ensures) _ _ (c .before .before .before .before .step .ensures) (omega (arith, c .before .before .before .before .before .before .before .before .before .before .before .before .loop .inv .on-tape, c .before .before .before .before .before .before .before .before .if2 .left))
+loop-again c = walk-on (c .before .before .before .before .before .before .before .before .before .before .before .before .loop .inv) (c .before .before .before .before .before .before .before .before .before .before .before .node-at .ensures) (c .before .before .before .before .before .before .before .before .before .if1 .left) (c .before .before .before .before .before .before .before .before .before .before .before .before .before .before .before .before .pre .searching) (c .before .before .before .before .before .before .before .spot-of .ensures) _ _ (c .before .before .before .before .step .ensures) (omega (arith, c .before .before .before .before .before .before .before .before .before .before .before .before .loop .inv .on-tape, c .before .before .before .before .before .before .before .before .if2 .left))
     (c .before .before .found .given .1) (c .operand .ensures)
 
 pub walk-spec : {M : Type 1} → statement M

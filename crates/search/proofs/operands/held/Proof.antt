@@ -19,7 +19,7 @@ held-if-requires-3 c κs = there-below (c .before .before .before .before .args 
 
 returns : tie.Need-returns
 unfolding heldIn three
-returns c =     rw
+returns c = rw
     (c .before .before .held-if .ensures, c .before .held-if2 .ensures, c .held-if3 .ensures, c .before .before .before .shape-of .ensures)
 
 pub held-spec : {M : Type 1} → statement M

@@ -17,7 +17,7 @@ width-if-requires-3 c κs = search needs
 
 returns : tie.Need-returns
 unfolding widthsIn
-returns c =     rw
+returns c = rw
     (c .before .before .width-if .ensures, c .before .width-if2 .ensures, c .width-if3 .ensures, c .before .before .before .shape-of .ensures)
 
 pub widths-of-spec : {M : Type 1} → statement M

@@ -35,11 +35,11 @@ mul-if1 : tie.Need-mul-if1 Inv-loop μ-loop
 mul-if1 c = search needs
 
 element-copy-out-if1 : tie.Need-element-copy-out-if1 Inv-loop μ-loop
-element-copy-out-if1 c =     let a = c .before .before .before .before .before .pre .accepted in
+element-copy-out-if1 c = let a = c .before .before .before .before .before .pre .accepted in
     omega (arith, c .root-at .ensures, root-inside _ (c .before .before .loop .j) a (omega arith), good-of _ a .few)
 
 returns : tie.Need-returns Inv-loop μ-loop
-returns c =     let st = c .before .before .before .before in
+returns c = let st = c .before .before .before .before in
     record {
       at = st .loop .j;
       at-lt = omega arith;
@@ -53,11 +53,12 @@ loop-less : tie.Need-loop-less Inv-loop μ-loop
 loop-less c = search needs
 
 loop-again : tie.Need-loop-again Inv-loop μ-loop
-loop-again c =     let st = c .before .before .before .before in
-    ( st .loop .inv .0
-    , omega arith
-    , below-more _ _ (st .loop .inv .2)
-      (λ q. c .if1 .left (root-hi _ _ _ _ _ (st .before .before .before .pre) (c .before .before .root-at .ensures) ∙ q)) )
+loop-again c = let st = c .before .before .before .before in (
+  st .loop .inv .0,
+  omega arith,
+  below-more _ _ (st .loop .inv .2)
+      (λ q. c .if1 .left (root-hi _ _ _ _ _ (st .before .before .before .pre) (c .before .before .root-at .ensures) ∙ q)),
+)
 
 returns-2 : tie.Need-returns-2 Inv-loop μ-loop
 returns-2 c = λ z. c .before .loop .inv .2 (z .at) (omega (arith, z .at-lt)) (z .is-zero)

@@ -26,7 +26,7 @@ unfolding problem
 loop-holds c = (c .node-count .ensures, omega arith, c .before .before .pre .none ∙ sym (fillUp-none _))
 
 pair-at-requires : tie.Need-pair-at-requires Inv-loop μ-loop
-pair-at-requires c κs =     record { accepted = c .before .before .before .before .before .before .pre .accepted; inside = omega arith; so-far = c .before .before .before .loop .inv .2 }
+pair-at-requires c κs = record { accepted = c .before .before .before .before .before .before .pre .accepted; inside = omega arith; so-far = c .before .before .before .loop .inv .2 }
 
 cast-los : tie.Need-cast-los Inv-loop μ-loop
 cast-los c = search needs
@@ -53,9 +53,11 @@ loop-less : tie.Need-loop-less Inv-loop μ-loop
 loop-less c = search needs
 
 loop-again : tie.Need-loop-again Inv-loop μ-loop
-loop-again c =     ( c .before .before .before .before .loop .inv .0
-    , omega arith
-    , fillUp-step _ _ _ _ (c .before .before .before .before .loop .inv .2) (c .pair-at .ensures) )
+loop-again c = (
+  c .before .before .before .before .loop .inv .0,
+  omega arith,
+  fillUp-step _ _ _ _ (c .before .before .before .before .loop .inv .2) (c .pair-at .ensures),
+)
 
 returns : tie.Need-returns Inv-loop μ-loop
 returns c = filled-all _ _ _ _ (c .before .before .before .before .pre .accepted) (omega arith) (c .before .loop .inv .2)

@@ -32,7 +32,7 @@ held-requires-3 c κs = search needs
 
 returns : tie.Need-returns
 unfolding spotIn
-returns c =     let w = c .before .before .before .before .before .before .before .before .before .before in
+returns c = let w = c .before .before .before .before .before .before .before .before .before .before in
     rw (w .widths-of .ensures, c .before .before .before .held .ensures, c .before .held2 .ensures, c .held3 .ensures)
 
 pub spot-of-spec : {M : Type 1} → statement M

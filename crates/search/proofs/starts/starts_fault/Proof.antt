@@ -33,7 +33,7 @@ enum-told-2 : tie.Need-enum-told-2 Inv-loop μ-loop
 enum-told-2 c = search needs
 
 returns : tie.Need-returns Inv-loop μ-loop
-returns c =     first-at _ _ _ _ _ (c .before .before .before .before .loop .inv .2) (c .before .before .start-fault .ensures) (c .enum-told2 .given .1) (omega arith)
+returns c = first-at _ _ _ _ _ (c .before .before .before .before .loop .inv .2) (c .before .before .start-fault .ensures) (c .enum-told2 .given .1) (omega arith)
 
 add-i : tie.Need-add-i Inv-loop μ-loop
 add-i c = search needs
@@ -42,9 +42,11 @@ loop-less : tie.Need-loop-less Inv-loop μ-loop
 loop-less c = search needs
 
 loop-again : tie.Need-loop-again Inv-loop μ-loop
-loop-again c =     ( c .before .before .before .before .loop .inv .0
-    , omega arith
-    , first-more _ _ _ (c .before .before .before .before .loop .inv .2) (c .before .before .start-fault .ensures) (c .enum-told .given .1) )
+loop-again c = (
+  c .before .before .before .before .loop .inv .0,
+  omega arith,
+  first-more _ _ _ (c .before .before .before .before .loop .inv .2) (c .before .before .start-fault .ensures) (c .enum-told .given .1),
+)
 
 returns-2 : tie.Need-returns-2 Inv-loop μ-loop
 returns-2 c = first-end _ _ _ (omega arith) (omega arith) (c .before .loop .inv .2)

@@ -28,7 +28,7 @@ loop-holds : tie.Need-loop-holds Inv-loop μ-loop
 loop-holds c = (ap (λ (x : Shape). x .operands) (c .before .shape-of .ensures), omega arith, sorted-none _ _)
 
 essential-requires : tie.Need-essential-requires Inv-loop μ-loop
-essential-requires c κs =     let st = c .before .before .before .before in
+essential-requires c κs = let st = c .before .before .before .before in
     record { fair = st .pre .fair (omega arith); position = omega arith; target = st .pre .target }
 
 open-at-requires : tie.Need-open-at-requires Inv-loop μ-loop
@@ -47,11 +47,12 @@ loop-less : tie.Need-loop-less Inv-loop μ-loop
 loop-less c = search needs
 
 loop-again : tie.Need-loop-again Inv-loop μ-loop
-loop-again c =     let st = c .before .before .before .before .before in
-    ( st .loop .inv .0
-    , omega arith
-    , sorted-more _ _ _ _ _ _ (st .loop .inv .2) (c .before .before .before .essential .ensures) (c .before .before .open-at .ensures)
-      (c .before .kept .ensures) (c .kept2 .ensures) )
+loop-again c = let st = c .before .before .before .before .before in (
+  st .loop .inv .0,
+  omega arith,
+  sorted-more _ _ _ _ _ _ (st .loop .inv .2) (c .before .before .before .essential .ensures) (c .before .before .open-at .ensures)
+      (c .before .kept .ensures) (c .kept2 .ensures),
+)
 
 returns : tie.Need-returns Inv-loop μ-loop
 returns c = all-essential _ _ _ _ _ _ (c .before .before .loop .inv .2) (omega arith) (c .if1 .taken)

@@ -11,7 +11,7 @@ held-at-requires-2 : tie.Need-held-at-requires-2
 held-at-requires-2 c κs = search needs
 
 returns : tie.Need-returns
-returns c =     decides-ne _ _ _ (λ e. sym (c .before .held-at .ensures) ∙ e ∙ c .held-at2 .ensures)
+returns c = decides-ne _ _ _ (λ e. sym (c .before .held-at .ensures) ∙ e ∙ c .held-at2 .ensures)
     (λ e. c .before .held-at .ensures ∙ e ∙ sym (c .held-at2 .ensures))
 
 pub open-at-spec : {M : Type 1} → statement M

@@ -23,7 +23,7 @@ pick-consistent-requires : tie.Need-pick-consistent-requires
 pick-consistent-requires c κs = search needs
 
 returns-2 : tie.Need-returns-2
-returns-2 c =     follows-consistent _ _ _ _ _ (c .pick-consistent .result)
+returns-2 c = follows-consistent _ _ _ _ _ (c .pick-consistent .result)
     (⊎-elim (λ w. inr (rw (w .3 .given .1) at (w .1 .ensures))) (λ w. inl (omega arith)) (c .before .if1 .came))
     (c .pick-consistent .ensures)
 

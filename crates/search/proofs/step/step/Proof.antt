@@ -22,7 +22,7 @@ array-read-i : tie.Need-array-read-i
 array-read-i c = step-lt _ _ _ _ (c .before .before .candidates .ensures) (omega arith)
 
 pick-at-requires : tie.Need-pick-at-requires
-pick-at-requires c κs =     let st = c .before .before .before in
+pick-at-requires c κs = let st = c .before .before .before in
     let below = step-below _ _ (st .args .e) _ (c .before .before .candidates .ensures) (omega arith) in
     record { fair = st .pre .fair (omega (arith, below)); position = below; target = st .pre .target }
 

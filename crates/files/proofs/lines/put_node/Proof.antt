@@ -1,0 +1,35 @@
+-- A variable's line, and nothing for another node.
+use Rattle.files.proofs.Reading.{line-of, no-line}
+use Rattle.files.specs.LaidLaws.{laid-none}
+use borrow.Author.Needs.{needs}
+use Rattle.files.proofs.lines.put_node.Statement.{statement}
+use Rattle.files.proofs.lines.put_node.Tie as tie
+
+kind-at-requires : tie.Need-kind-at-requires
+kind-at-requires c κs = search needs
+
+value-at-requires : tie.Need-value-at-requires
+value-at-requires c κs = search needs
+
+put-variable-requires : tie.Need-put-variable-requires
+put-variable-requires c κs = search needs
+
+same-length : tie.Need-same-length
+same-length c = search needs
+
+returns : tie.Need-returns
+returns c = rw (line-of _ _ _ _ _ (c .before .before .before .before .before .before .kind-at .ensures) (c .before .before .before .before .before .if1 .taken) (c .before .before .before .value-at .ensures)) (c .before .before .put-variable .ensures)
+
+returns-2 : tie.Need-returns-2
+returns-2 c = rw (no-line _ _ _ _ (c .before .kind-at .ensures) (c .if1 .left)) (laid-none _ _ (c .before .before .before .before .before .pre))
+
+pub put-node-spec : {M : Type 1} → statement M
+put-node-spec =
+    tie.close
+    (tie.spec
+    kind-at-requires
+    value-at-requires
+    put-variable-requires
+    same-length
+    returns
+    returns-2)

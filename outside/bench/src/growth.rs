@@ -1,0 +1,71 @@
+//! Cost as the nodes grow from 16 to 1,024 and as the budget grows: both are to be linear.
+
+use crate::measure::{fastest, SIDES};
+use crate::plot::{plot, Series};
+use crate::workload::Workload;
+use generate::families::deep;
+use tools::args::Fault;
+
+pub fn table(rounds: usize, svg: &str) -> Result<(), Fault> {
+    let nodes = [16, 32, 64, 128, 256, 512, 768, 1024];
+    println!(
+        "{:>6} {:>12} {:>12}   {:>8} {:>8}   {:>5}",
+        "nodes", "ns/move", "plain", "ns/node", "plain", "ratio"
+    );
+    let by_nodes = nodes.map(|size| {
+        let [library, plain, moves] = cost(rounds, size, 200);
+        let [library, plain] = [library / moves, plain / moves];
+        println!(
+            "{size:>6} {library:>12.1} {plain:>12.1}   {:>8.2} {:>8.2}   {:>5.2}",
+            library / size as f64,
+            plain / size as f64,
+            plain / library
+        );
+        [size as f64, library, plain]
+    });
+    println!(
+        "{:>6} {:>12} {:>12}   {:>8} {:>8}   {:>5}",
+        "budget", "us/run", "plain", "ns/move", "plain", "ratio"
+    );
+    let by_budget = [25, 50, 100, 200, 400, 800].map(|budget| {
+        let [library, plain, moves] = cost(rounds, 256, budget);
+        println!(
+            "{budget:>6} {:>12.1} {:>12.1}   {:>8.1} {:>8.1}   {:>5.2}",
+            library / 1000.0,
+            plain / 1000.0,
+            library / moves,
+            plain / moves,
+            plain / library
+        );
+        [f64::from(budget), library / 1000.0, plain / 1000.0]
+    });
+    if svg.is_empty() {
+        return Ok(());
+    }
+    let series = |name, rows: &[[f64; 3]], column: usize| Series {
+        name,
+        points: rows.iter().map(|row| (row[0], row[column])).collect(),
+    };
+    let drawn = plot(&[
+        (
+            "Nanoseconds a move by nodes",
+            "nodes",
+            &[series("library", &by_nodes, 1), series("plain Rust", &by_nodes, 2)],
+        ),
+        (
+            "Microseconds a run of 256 nodes by budget",
+            "moves",
+            &[series("library", &by_budget, 1), series("plain Rust", &by_budget, 2)],
+        ),
+    ]);
+    tools::disk::write_all(&[(svg.into(), drawn.into_bytes())])
+}
+
+/// Nanoseconds of a run by the library and by plain Rust, and its moves.
+fn cost(rounds: usize, size: usize, budget: u16) -> [f64; 3] {
+    const RUNS: u64 = 4;
+    let mut workload = Workload::new(&deep(3, size), RUNS, budget);
+    let moves = workload.amount().moves;
+    let [library, plain] = fastest(rounds, workload.runs(), |side, run| workload.run(SIDES[side].1, run));
+    [library / RUNS as f64, plain / RUNS as f64, moves as f64 / RUNS as f64]
+}

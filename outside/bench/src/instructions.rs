@@ -1,0 +1,56 @@
+//! Instructions of each family's runs, counted by valgrind, which do not vary from run to run.
+
+use crate::measure::SIDES;
+use crate::workload::{family, FAMILIES};
+use std::process::Command;
+use tools::args::Fault;
+
+/// The runs of a family by one side, some times over.
+pub fn work(side: &str, name: &str, times: &str) -> Result<(), Fault> {
+    let (_, run) = SIDES.into_iter().find(|(other, _)| *other == side).ok_or(format!("no side '{side}'"))?;
+    let mut workload = family(name).ok_or(format!("no family '{name}'"))?;
+    let times: usize = times.parse().map_err(|_| format!("'{times}' is not a count"))?;
+    for _ in 0..times {
+        (0..workload.runs()).for_each(|index| workload.run(run, index));
+    }
+    Ok(())
+}
+
+pub fn table() -> Result<(), Fault> {
+    println!(
+        "{:9} {:>14} {:>14}   {:>14} {:>8}   {:>5}",
+        "family", "instructions", "plain", "a node", "plain", "ratio"
+    );
+    for name in FAMILIES {
+        let workload = family(name).expect("a family");
+        let evaluated = (workload.amount().passes * workload.nodes as u64) as f64;
+        let [library, plain] = [count(SIDES[0].0, name)?, count(SIDES[1].0, name)?];
+        println!(
+            "{name:9} {library:>14.0} {plain:>14.0}   {:>14.2} {:>8.2}   {:>5.2}",
+            library / evaluated,
+            plain / evaluated,
+            plain / library
+        );
+    }
+    Ok(())
+}
+
+/// Instructions of a family's runs: what doing them a second time adds.
+fn count(side: &str, name: &str) -> Result<f64, Fault> {
+    Ok(counted(side, name, "2")? - counted(side, name, "1")?)
+}
+
+/// Instructions of this program doing a family's runs so many times.
+fn counted(side: &str, name: &str, times: &str) -> Result<f64, Fault> {
+    let own = std::env::current_exe().map_err(|fault| format!("this program: {fault}"))?;
+    let output = Command::new("valgrind")
+        .args(["--tool=callgrind", "--callgrind-out-file=/dev/null"])
+        .arg(own)
+        .args(["work", side, name, times])
+        .output()
+        .map_err(|fault| format!("valgrind: {fault}"))?;
+    let printed = String::from_utf8_lossy(&output.stderr);
+    let line =
+        printed.lines().find(|line| line.contains("Collected")).ok_or(format!("valgrind: {printed}"))?;
+    line.rsplit(' ').next().and_then(|number| number.parse().ok()).ok_or(format!("valgrind: {line}"))
+}

@@ -1,0 +1,29 @@
+//! Two sides measured in turns, so that what slows the machine slows both.
+
+use std::time::Instant;
+
+/// The run as both sides have it.
+pub type Run = fn(&[u8], &mut [u64], &[u64], u16, &mut [u64; 4]) -> u32;
+
+/// The proved library and plain Rust, by name.
+pub const SIDES: [(&str, Run); 2] = [("library", walumpeh::raw::run), ("plain", plain::calls::run)];
+
+/// Nanoseconds of a work for each of the two sides, on the same memory. The work is cut into parts,
+/// short enough to run undisturbed now and then; each counts by the fastest of `rounds` rounds in
+/// which the sides take turns, after one round that does not count.
+pub fn fastest(rounds: usize, parts: usize, mut work: impl FnMut(usize, usize)) -> [f64; 2] {
+    let mut best = [vec![f64::INFINITY; parts], vec![f64::INFINITY; parts]];
+    for round in 0..=rounds {
+        for part in 0..parts {
+            for (side, best) in best.iter_mut().enumerate() {
+                let start = Instant::now();
+                work(side, part);
+                let time = start.elapsed().as_nanos() as f64;
+                if round > 0 {
+                    best[part] = best[part].min(time);
+                }
+            }
+        }
+    }
+    best.map(|times| times.iter().sum())
+}

@@ -1,0 +1,84 @@
+//! Makes wrong builds of the library: copies of its archive in which one operator of the evaluation is
+//! another one. The prover builds nothing that is wrong, so the compiled code is changed instead. The
+//! script `caught` then shows that the comparison finds each.
+
+use std::path::Path;
+use tools::args::Fault;
+
+const USAGE: &str = "\
+wrong ARCHIVE FOLDER
+    writes into FOLDER a copy of the library's archive for each operator that is changed in the
+    compiled evaluation: a below b to a at most b, xor to or";
+
+/// An operator's instruction: its leading bytes, and those of the one that takes its place.
+struct Change {
+    name: &'static str,
+    from: &'static [u8],
+    to: &'static [u8],
+}
+
+const CHANGES: [Change; 2] = [
+    Change { name: "below-as-at-most", from: &[0x0f, 0x92], to: &[0x0f, 0x96] }, // setb, setbe
+    Change { name: "xor-as-or", from: &[0x48, 0x31], to: &[0x48, 0x09] },        // of 64-bit registers
+];
+
+fn main() -> std::process::ExitCode {
+    tools::args::main("wrong", USAGE, |args| {
+        let [archive, folder] = args.rest(["ARCHIVE", "FOLDER"])?;
+        let bytes = std::fs::read(&archive).map_err(|fault| format!("{archive}: {fault}"))?;
+        let code = evaluation(&bytes).ok_or(format!("{archive}: no section has the evaluation's code"))?;
+        std::fs::create_dir_all(&folder).map_err(|fault| format!("{folder}: {fault}"))?;
+        CHANGES.iter().try_for_each(|change| write(&bytes, &code, change, Path::new(&folder)))
+    })
+}
+
+/// Writes the archive with a change at its first place in the code.
+fn write(bytes: &[u8], code: &[std::ops::Range<usize>], change: &Change, folder: &Path) -> Result<(), Fault> {
+    let register_operands = 0xc0; // the next byte names two registers, and no place in memory
+    let place = code.iter().cloned().flatten().find(|&at| {
+        bytes[at..].starts_with(change.from) && bytes.get(at + 2).is_some_and(|&next| next >= register_operands)
+    });
+    let place = place.ok_or(format!("{}: the evaluation has no such instruction", change.name))?;
+    let mut wrong = bytes.to_vec();
+    wrong[place..place + change.to.len()].copy_from_slice(change.to);
+    let file = folder.join(format!("lib{}.a", change.name));
+    std::fs::write(&file, wrong).map_err(|fault| format!("{}: {fault}", file.display()))?;
+    println!("{}", file.display());
+    Ok(())
+}
+
+/// Where the archive has the compiled evaluation: the sections of its object files that are named after
+/// the functions which compute a node's value.
+fn evaluation(archive: &[u8]) -> Option<Vec<std::ops::Range<usize>>> {
+    let mut found = Vec::new();
+    let mut at = 8; // past the archive's mark
+    while let Some(header) = archive.get(at..at + 60) {
+        let size: usize = std::str::from_utf8(&header[48..58]).ok()?.trim().parse().ok()?;
+        let member = archive.get(at + 60..at + 60 + size)?;
+        if member.starts_with(b"\x7fELF") {
+            found.extend(code_of(member)?.into_iter().map(|r| at + 60 + r.start..at + 60 + r.end));
+        }
+        at += 60 + size + size % 2;
+    }
+    (!found.is_empty()).then_some(found)
+}
+
+/// The sections of an object file (64-bit ELF) that have the evaluation's code.
+fn code_of(object: &[u8]) -> Option<Vec<std::ops::Range<usize>>> {
+    let number = |at: usize, bytes: usize| {
+        let field = object.get(at..at + bytes)?;
+        Some(field.iter().rev().fold(0, |n, &byte| n << 8 | usize::from(byte)))
+    };
+    let (sections, entry, count, names) = (number(0x28, 8)?, number(0x3a, 2)?, number(0x3c, 2)?, number(0x3e, 2)?);
+    let strings = number(sections + names * entry + 0x18, 8)?;
+    let mut found = Vec::new();
+    for section in (0..count).map(|i| sections + i * entry) {
+        let name = object.get(strings + number(section, 4)?..)?.split(|&byte| byte == 0).next()?;
+        let name = String::from_utf8_lossy(name);
+        if name.starts_with(".text") && (name.contains("evaluate") || name.contains("meaning")) {
+            let start = number(section + 0x18, 8)?;
+            found.push(start..start + number(section + 0x20, 8)?);
+        }
+    }
+    Some(found)
+}

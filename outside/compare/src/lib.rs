@@ -1,0 +1,21 @@
+//! Holds a subject, the proved library above all, against the model.
+//!
+//! | module    | what it compares                                                              |
+//! |-----------|-------------------------------------------------------------------------------|
+//! | `subject` | the four calls, answered by the proved library or by plain Rust               |
+//! | `narrow`  | picks and essential tests over all cases of few bits, against the definitions |
+//! | `wide`    | the same at 33 to 64 bits at random, with witnesses and neighbours            |
+//! | `refused` | picks whose arguments are not those of a node                                 |
+//! | `runs`    | checks and whole runs, with every verdict and refusal counted                 |
+//! | `program` | what the program `tvrun` prints, whole                                        |
+//!
+//! A difference is an `Err` with a text that shows it.
+
+pub mod narrow;
+pub mod program;
+pub mod refused;
+pub mod runs;
+pub mod subject;
+pub mod wide;
+
+pub use subject::{Library, Plain, Subject};

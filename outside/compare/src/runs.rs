@@ -1,0 +1,184 @@
+//! Checks and whole runs, of all sorts of problems, starts and tapes, with every verdict and every
+//! refusal counted; and demand 3: tapes built from a known solution bring *model* within its bounds.
+
+use crate::subject::{Model, Subject};
+use generate::case::{case, Case};
+use generate::{damage, Rng};
+use model::files::{bytes_of, tape_file};
+use model::run::{run_seen, Step};
+use model::{Kind, Verdict};
+use std::path::Path;
+
+/// What was reached.
+#[derive(Clone, Debug, Default)]
+pub struct Counts {
+    pub cases: u64,
+    pub verdicts: [u64; 4],
+    pub refusals: [u64; 16],
+    pub promised: u64,
+    pub moves: u64,
+    pub steps: u64,
+    /// Steps by the kind and position followed, from the inverse and from the consistent set.
+    pub followed: [[[u64; 2]; 3]; 14],
+    /// Steps at which a move was blocked, by kind.
+    pub blocked: [u64; 14],
+    /// Problem checks alone, and how many of them refused.
+    pub checks: u64,
+    pub checks_refused: u64,
+}
+
+impl Counts {
+    /// What was never reached, by name.
+    pub fn missing(&self) -> Vec<String> {
+        let verdicts = Verdict::ALL
+            .into_iter()
+            .filter(|&v| self.verdicts[v as usize] == 0)
+            .map(|v| v.name().to_string());
+        let refusals =
+            (1..=15).filter(|&number| self.refusals[number] == 0).map(|number| format!("refusal {number}"));
+        let promised = (self.promised == 0).then(|| "a promised model".into());
+        let steps = Kind::ALL.into_iter().flat_map(|kind| {
+            let unused = move |&position: &usize| self.followed[kind as usize][position].contains(&0);
+            (0..kind.operands()).filter(unused).map(move |position| {
+                format!("a step from {} to position {position} by each set", kind.name())
+            })
+        });
+        verdicts.chain(refusals).chain(promised).chain(steps).collect()
+    }
+
+    fn see(&mut self, step: Step) {
+        match step.followed {
+            None => self.blocked[step.kind as usize] += 1,
+            Some((position, set)) => self.followed[step.kind as usize][position][set as usize] += 1,
+        }
+    }
+}
+
+/// A case whose answers differ, and how.
+#[derive(Debug)]
+pub struct Difference {
+    pub index: u64,
+    pub what: String,
+    pub case: Case,
+}
+
+/// Compares cases 0 to `cases` - 1 under a seed, up to the first difference.
+pub fn compare(subject: &impl Subject, seed: u64, cases: u64) -> Result<Counts, Box<Difference>> {
+    let mut counts = Counts::default();
+    for index in 0..cases {
+        let case = case(seed, index);
+        if let Err(what) = compare_case(subject, &case, &mut counts) {
+            return Err(Box::new(Difference { index, what, case }));
+        }
+        if let Err(what) = compare_damaged(subject, seed, index, &case, &mut counts) {
+            return Err(Box::new(Difference { index, what, case }));
+        }
+    }
+    Ok(counts)
+}
+
+/// One run by both, and what it must keep.
+fn compare_case(subject: &impl Subject, case: &Case, counts: &mut Counts) -> Result<(), String> {
+    let (checked, due) = (subject.check(&case.problem), Model.check(&case.problem));
+    if checked != due {
+        return Err(format!(
+            "check answered {checked} (refusal {} at {}), expected {due} (refusal {} at {})",
+            checked & 255,
+            checked >> 8,
+            due & 255,
+            due >> 8
+        ));
+    }
+    let (mut values, mut expected_values) = (case.values.clone(), case.values.clone());
+    let (mut out, mut expected_out) = ([u64::MAX; 4], [0; 4]);
+    let number = subject.run(&case.problem, &mut values, &case.tape, case.budget, &mut out);
+    let answer =
+        run_seen(&case.problem, &mut expected_values, &case.tape, case.budget, &mut |step| counts.see(step));
+    let expected = model::calls::numbers(&answer, &mut expected_out);
+    if (number, out) != (expected, expected_out) {
+        return Err(format!(
+            "run answered {}, expected {}",
+            shown(number, out),
+            shown(expected, expected_out)
+        ));
+    }
+    if let Some(place) = (0..values.len()).find(|&place| values[place] != expected_values[place]) {
+        return Err(format!(
+            "after {} place {place} holds {}, expected {}",
+            shown(number, out),
+            values[place],
+            expected_values[place]
+        ));
+    }
+    let [moves, steps, words, _] = out;
+    if let Some(promise) = case.promise {
+        counts.promised += 1;
+        if number != Verdict::Model as u32 || moves > promise.moves || words > promise.words {
+            return Err(format!(
+                "{}, but a model was promised within {} moves and {} words",
+                shown(number, out),
+                promise.moves,
+                promise.words
+            ));
+        }
+    }
+    counts.cases += 1;
+    counts.moves += moves;
+    counts.steps += steps;
+    match number {
+        0..=3 => counts.verdicts[number as usize] += 1,
+        _ => counts.refusals[(number - 16) as usize] += 1,
+    }
+    Ok(())
+}
+
+/// The check alone, of the case's problem with a fault.
+fn compare_damaged(
+    subject: &impl Subject,
+    seed: u64,
+    index: u64,
+    case: &Case,
+    counts: &mut Counts,
+) -> Result<(), String> {
+    let Ok(problem) = model::problem::read(&case.problem) else {
+        return Ok(());
+    };
+    let mut rng = Rng::of_case(!seed, index);
+    let bytes = damage::damaged(&mut rng, &problem, 1 + (index % 13) as u8);
+    let (checked, due) = (subject.check(&bytes), Model.check(&bytes));
+    counts.checks += 1;
+    counts.checks_refused += u64::from(due != 0);
+    if checked != due {
+        return Err(format!("check of a damaged copy answered {checked}, expected {due}: {bytes:?}"));
+    }
+    Ok(())
+}
+
+/// An answer in words.
+fn shown(number: u32, [moves, steps, words, place]: [u64; 4]) -> String {
+    let name = match number {
+        0..=3 => format!("verdict {}", Verdict::ALL[number as usize].name()),
+        _ => format!("number {number} (refused {} at {place})", i64::from(number) - 16),
+    };
+    format!("{name} moves {moves} steps {steps} words {words}")
+}
+
+/// Writes a case's three files into a folder, as `tvrun` reads them.
+pub fn write_files(case: &Case, folder: &Path) -> std::io::Result<()> {
+    std::fs::create_dir_all(folder)?;
+    std::fs::write(folder.join("problem.tbv"), &case.problem)?;
+    std::fs::write(folder.join("start.bin"), bytes_of(&case.values))?;
+    std::fs::write(folder.join("tape.bin"), tape_file(case.budget, &case.tape))
+}
+
+#[cfg(test)]
+mod tests {
+    use super::*;
+    use crate::subject::Plain;
+
+    #[test]
+    fn plain_rust_passes_and_everything_is_reached() {
+        let counts = compare(&Plain, 1, 20_000).map_err(|d| d.what).unwrap();
+        assert!(counts.missing().is_empty(), "{:?}", counts.missing());
+    }
+}

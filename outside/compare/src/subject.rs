@@ -1,0 +1,102 @@
+//! What is compared with the model: the four calls in the library's own numbers.
+
+use model::{Set, Spot};
+
+pub trait Subject {
+    /// 0, or a refusal's number + 256 × its place.
+    fn check(&self, problem: &[u8]) -> u32;
+    /// 0 to 3 for a verdict, 16 + a refusal's number; `out` takes moves, steps, words, place.
+    fn run(&self, problem: &[u8], values: &mut [u64], tape: &[u64], budget: u16, out: &mut [u64; 4]) -> u32;
+    /// 0 for nothing, 1 for a value in `out`, 2 for refused arguments.
+    fn pick(&self, asked: &Asked, set: Set, proposal: u64, out: &mut [u64; 1]) -> u8;
+    /// 0, 1, or 2 for refused arguments.
+    fn essential(&self, asked: &Asked) -> u8;
+}
+
+/// A node, a position and a target, as the calls take them.
+#[derive(Clone, Copy, Debug)]
+pub struct Asked {
+    pub kind: u8,
+    pub width: u32,
+    pub low: u32,
+    pub words: [u64; 12],
+    pub position: u32,
+    pub target: u64,
+}
+
+impl Asked {
+    pub fn new(spot: &Spot, position: usize, target: u64) -> Asked {
+        let operator = &spot.operator;
+        Asked {
+            kind: operator.kind.number(),
+            width: operator.width,
+            low: operator.low,
+            words: model::calls::words_of(spot),
+            position: position as u32,
+            target,
+        }
+    }
+}
+
+/// The proved library, or the stub in its place.
+pub struct Library;
+
+impl Subject for Library {
+    fn check(&self, problem: &[u8]) -> u32 {
+        walumpeh::raw::check(problem)
+    }
+
+    fn run(&self, problem: &[u8], values: &mut [u64], tape: &[u64], budget: u16, out: &mut [u64; 4]) -> u32 {
+        walumpeh::raw::run(problem, values, tape, budget, out)
+    }
+
+    fn pick(&self, q: &Asked, set: Set, proposal: u64, out: &mut [u64; 1]) -> u8 {
+        walumpeh::raw::pick(q.kind, q.width, q.low, &q.words, q.position, q.target, proposal, set as u8, out)
+    }
+
+    fn essential(&self, q: &Asked) -> u8 {
+        walumpeh::raw::essential(q.kind, q.width, q.low, &q.words, q.position, q.target)
+    }
+}
+
+/// The model itself: what every subject is to answer at any width.
+pub struct Model;
+
+impl Subject for Model {
+    fn check(&self, problem: &[u8]) -> u32 {
+        model::calls::check(problem)
+    }
+
+    fn run(&self, problem: &[u8], values: &mut [u64], tape: &[u64], budget: u16, out: &mut [u64; 4]) -> u32 {
+        model::calls::run(problem, values, tape, budget, out)
+    }
+
+    fn pick(&self, q: &Asked, set: Set, proposal: u64, out: &mut [u64; 1]) -> u8 {
+        model::calls::pick(q.kind, q.width, q.low, &q.words, q.position, q.target, proposal, set as u8, out)
+    }
+
+    fn essential(&self, q: &Asked) -> u8 {
+        model::calls::essential(q.kind, q.width, q.low, &q.words, q.position, q.target)
+    }
+}
+
+/// The search in plain Rust.
+pub struct Plain;
+
+impl Subject for Plain {
+    fn check(&self, problem: &[u8]) -> u32 {
+        plain::calls::check(problem)
+    }
+
+    fn run(&self, problem: &[u8], values: &mut [u64], tape: &[u64], budget: u16, out: &mut [u64; 4]) -> u32 {
+        plain::calls::run(problem, values, tape, budget, out)
+    }
+
+    fn pick(&self, q: &Asked, set: Set, proposal: u64, out: &mut [u64; 1]) -> u8 {
+        plain::calls::pick(q.kind, q.width, q.low, &q.words, q.position, q.target, proposal, set as u8, out)
+    }
+
+    fn essential(&self, q: &Asked) -> u8 {
+        plain::calls::essential(q.kind, q.width, q.low, &q.words, q.position, q.target)
+    }
+}

@@ -1,0 +1,141 @@
+//! Picks and essential tests at 33 to 64 bits, at random: equal to the model's, and checked beside that
+//! by membership, by witnesses and by neighbours that must not be members.
+
+use crate::subject::{Asked, Model, Subject};
+use generate::{spots, Rng};
+use model::{definition, exact, ones, Kind, Pair, Set, Spot};
+
+/// Compares `cases` spots of each kind and position; gives how many picks found a value.
+pub fn compare(subject: &impl Subject, cases: u64, seed: u64) -> Result<u64, String> {
+    let mut found = 0;
+    for kind in Kind::ALL.into_iter().skip(2) {
+        for position in 0..kind.operands() {
+            for case in 0..cases {
+                let mut rng = Rng::of_case(seed, case << 8 | u64::from(kind.number()) << 2 | position as u64);
+                found += compare_case(subject, &mut rng, kind, position)
+                    .map_err(|difference| format!("case {case} of {}: {difference}", kind.name()))?;
+            }
+        }
+    }
+    Ok(found)
+}
+
+fn compare_case(subject: &impl Subject, rng: &mut Rng, kind: Kind, position: usize) -> Result<u64, String> {
+    let operator = spots::operator(rng, kind, 33, 64);
+    let spot = spots::spot(rng, operator);
+    let target = spots::target(rng, &spot, position);
+    let asked = Asked::new(&spot, position, target);
+    let show = |what: &str| format!("{what} at {position} for {target} of {spot:?}");
+
+    let essential = subject.essential(&asked);
+    if essential != Model.essential(&asked) {
+        return Err(show(&format!("essential answered {essential}")));
+    }
+    if essential == 1 {
+        for _ in 0..4 {
+            let mut values = spot.pairs.map(|pair| rng.member(pair));
+            values[position] = spot.values[position];
+            if operator.apply(values) == target {
+                return Err(show(&format!("essential, but {values:?} give the target")));
+            }
+        }
+    }
+
+    let mut found = 0;
+    for set in [Set::Inverse, Set::Consistent] {
+        let proposal = spots::proposal(rng, &spot, position);
+        let (mut out, mut expected) = ([u64::MAX], [u64::MAX]);
+        let answer = subject.pick(&asked, set, proposal, &mut out);
+        let due = Model.pick(&asked, set, proposal, &mut expected);
+        if (answer, out) != (due, expected) {
+            return Err(show(&format!(
+                "{set:?} pick of {proposal} answered {answer} {out:?}, expected {due} {expected:?}"
+            )));
+        }
+        let value = (answer == 1).then_some(out[0]);
+        found += u64::from(answer == 1);
+        confirm(rng, &spot, set, position, target, proposal, value)
+            .map_err(|fault| show(&format!("{set:?} pick of {proposal}: {fault}")))?;
+    }
+    Ok(found)
+}
+
+/// Confirms a pick beside the model's: that it is a member, and that values passed over are not. For
+/// the consistent set "not" rests on `witness`, and so on the model's search for the other operand.
+fn confirm(
+    rng: &mut Rng,
+    spot: &Spot,
+    set: Set,
+    position: usize,
+    target: u64,
+    proposal: u64,
+    value: Option<u64>,
+) -> Result<(), String> {
+    let top = ones(spot.operator.widths[position]);
+    let p = proposal & top;
+    if let Some(v) = value {
+        if !is_member(spot, set, position, target, v) {
+            return Err(format!("{v} is not a member"));
+        }
+    }
+    // What lies before the pick on the way from the proposal up and round, as closed ranges.
+    let passed = match value {
+        Some(v) if v == p => vec![],
+        Some(v) if v > p => vec![(p, v - 1)],
+        Some(0) => vec![(p, top)],
+        Some(v) => vec![(p, top), (0, v - 1)],
+        None => vec![(0, top)],
+    };
+    for (from, to) in passed {
+        for _ in 0..6 {
+            let step = rng.word() % 8;
+            let near_member = rng.member(spot.pairs[position]);
+            for u in [from.saturating_add(step), to.saturating_sub(step), near_member] {
+                if (from..=to).contains(&u) && is_member(spot, set, position, target, u) {
+                    return Err(format!("{u} is a member and was passed over"));
+                }
+            }
+        }
+    }
+    Ok(())
+}
+
+/// Membership by the definition; for the consistent set by values of the others that give the target.
+fn is_member(spot: &Spot, set: Set, position: usize, target: u64, v: u64) -> bool {
+    match set {
+        Set::Inverse => definition::has(spot, set, position, target, v),
+        Set::Consistent => spot.pairs[position].agrees(v) && witness(spot, position, target, v).is_some(),
+    }
+}
+
+/// Values of all positions, this one's being `v`, that give the target.
+fn witness(spot: &Spot, position: usize, target: u64, v: u64) -> Option<[u64; 3]> {
+    let operator = &spot.operator;
+    let mut spot = *spot;
+    spot.values[position] = v;
+    let found = match (operator.kind, position) {
+        (Kind::Not | Kind::Extract, _) => spot.values,
+        (Kind::If, 0) => [v, target, target],
+        (Kind::If, 1) => [0, v, target],
+        (Kind::If, _) => [1, target, v],
+        _ => {
+            let other = 1 - position;
+            spot.pairs[other] = Pair::free(operator.widths[other]);
+            spot.values[other] = exact::pick(&spot, Set::Inverse, other, target, 0)?;
+            spot.values
+        }
+    };
+    (operator.apply(found) == target).then_some(found)
+}
+
+#[cfg(test)]
+mod tests {
+    use super::*;
+    use crate::subject::Plain;
+
+    #[test]
+    fn the_model_and_plain_rust_pass() {
+        assert!(compare(&Model, 100, 1).unwrap() > 1000);
+        assert!(compare(&Plain, 2000, 1).unwrap() > 20_000);
+    }
+}

@@ -1,0 +1,131 @@
+//! Wrong programs, each of which the comparison must catch: those that the paper names, and slips
+//! that are easily made in picking. Each is the model with one thing changed.
+
+use compare::narrow::{self, Extent};
+use compare::subject::{Asked, Model};
+use compare::{runs, wide, Subject};
+use model::{Kind, Set};
+
+/// The model with some calls changed.
+#[derive(Clone, Copy, PartialEq)]
+enum Wrong {
+    RefusesEverything,
+    AlwaysSpent,
+    WritesNoValues,
+    CountsAfterTheFirstMove,
+    InventsAStep,
+    NamesNoPlace,
+    AcceptsWidth65,
+    ForgetsToGoRound,
+    PassesTheProposalOver,
+    JudgesEssentialByWidth,
+    DropsTheConsistentChoice,
+    TakesShiftAmountsModulo,
+    TakesOneOperatorForAnother,
+}
+
+use Wrong::*;
+
+impl Subject for Wrong {
+    fn check(&self, problem: &[u8]) -> u32 {
+        let checked = Model.check(problem);
+        match self {
+            RefusesEverything => 1,
+            NamesNoPlace => checked & 255,
+            AcceptsWidth65 if checked & 255 == 8 => 0,
+            _ => checked,
+        }
+    }
+
+    fn run(&self, problem: &[u8], values: &mut [u64], tape: &[u64], budget: u16, out: &mut [u64; 4]) -> u32 {
+        let before = values.to_vec();
+        let number = match self {
+            CountsAfterTheFirstMove => Model.run(problem, values, tape, budget.min(1), out),
+            _ => Model.run(problem, values, tape, budget, out),
+        };
+        match self {
+            RefusesEverything => 17,
+            AlwaysSpent if number < 4 => 1,
+            WritesNoValues => {
+                values.copy_from_slice(&before);
+                number
+            }
+            CountsAfterTheFirstMove if number == 1 => {
+                out[0] = budget.into();
+                number
+            }
+            InventsAStep if number < 4 => {
+                (out[1], out[2]) = (out[1] + 1, out[2] + 2);
+                number
+            }
+            _ => number,
+        }
+    }
+
+    fn pick(&self, asked: &Asked, set: Set, proposal: u64, out: &mut [u64; 1]) -> u8 {
+        let mut asked = *asked;
+        let width = asked.words[asked.position as usize] as u32;
+        let set = if *self == DropsTheConsistentChoice { Set::Inverse } else { set };
+        let proposal = if *self == PassesTheProposalOver { proposal.wrapping_add(1) } else { proposal };
+        let shift = asked.kind == Kind::Shl.number() || asked.kind == Kind::Lshr.number();
+        if *self == TakesShiftAmountsModulo && shift && asked.position == 0 {
+            asked.words[10] %= u64::from(asked.width);
+            (asked.words[4], asked.words[7]) = (0, model::ones(asked.width));
+        }
+        if *self == TakesOneOperatorForAnother && asked.kind == Kind::Shl.number() {
+            asked.kind = Kind::Lshr.number();
+        }
+        let mut picked = [0];
+        let found = Model.pick(&asked, set, proposal, &mut picked);
+        if found != 1 || *self == ForgetsToGoRound && picked[0] < proposal & model::ones(width) {
+            return 0;
+        }
+        *out = picked;
+        found
+    }
+
+    fn essential(&self, asked: &Asked) -> u8 {
+        let mut asked = *asked;
+        if *self == JudgesEssentialByWidth {
+            for at in [1, 2].map(|further| (asked.position as usize + further) % 3) {
+                (asked.words[3 + at], asked.words[6 + at]) = (0, model::ones(asked.words[at] as u32));
+            }
+        }
+        Model.essential(&asked)
+    }
+}
+
+#[test]
+fn wrong_runs_are_caught() {
+    for (number, wrong) in [
+        RefusesEverything,
+        AlwaysSpent,
+        WritesNoValues,
+        CountsAfterTheFirstMove,
+        InventsAStep,
+        NamesNoPlace,
+        AcceptsWidth65,
+    ]
+    .into_iter()
+    .enumerate()
+    {
+        assert!(runs::compare(&wrong, 1, 2000).is_err(), "wrong run {number} passed");
+    }
+}
+
+#[test]
+fn wrong_picks_are_caught_at_few_bits_and_at_many() {
+    let extent = Extent { operand: 3, node: 3, spots: 1000, seed: 1 };
+    let wrongs = [
+        ForgetsToGoRound,
+        PassesTheProposalOver,
+        JudgesEssentialByWidth,
+        DropsTheConsistentChoice,
+        TakesShiftAmountsModulo,
+        TakesOneOperatorForAnother,
+    ];
+    for (number, wrong) in wrongs.into_iter().enumerate() {
+        assert!(narrow::compare(&wrong, extent).is_err(), "wrong pick {number} passed at few bits");
+        assert!(wide::compare(&wrong, 2000, 1).is_err(), "wrong pick {number} passed at many bits");
+    }
+}

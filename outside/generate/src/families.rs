@@ -1,0 +1,191 @@
+//! The benchmark's families: problems of a kind that people have, each with a known solution.
+
+use crate::builder::Builder;
+use crate::rng::Rng;
+use crate::solved;
+use crate::solved::{finish, Solved};
+use model::{ones, Kind, Pair};
+
+/// The values of the variables as they are added, and zeros at the other nodes.
+#[derive(Default)]
+struct Draft {
+    builder: Builder,
+    values: Vec<u64>,
+}
+
+impl Draft {
+    /// A variable that has `value` in the solution, with the bits outside `open` fixed at it.
+    fn variable(&mut self, width: u32, value: u64, open: u64) -> u16 {
+        let open = open & ones(width);
+        let id = self.builder.variable(width, Pair { lo: value & !open, hi: value | open });
+        self.values.resize(id as usize, 0);
+        self.values.push(value);
+        id
+    }
+
+    /// The value of a node in the solution.
+    fn value(&self, id: u16) -> u64 {
+        let mut values = self.values.clone();
+        values.resize(self.builder.len(), 0);
+        self.builder.problem.evaluate(&mut values);
+        values[id as usize]
+    }
+
+    fn finish(self) -> Solved {
+        finish(self.builder.problem, &self.values)
+    }
+}
+
+/// A frame: a fixed mark, a length, `words` data words of 16 bits some of whose bits are known, a
+/// checksum (a turning sum of them all) and a parity bit. Sought: data that meet them.
+pub fn frame(seed: u64, words: usize) -> Solved {
+    let rng = &mut Rng::new(seed);
+    let mut draft = Draft::default();
+    let mark = draft.variable(16, 0xa55a, 0xff);
+    let length = draft.variable(16, words as u64, u64::MAX);
+    let data: Vec<u16> =
+        (0..words).map(|_| draft.variable(16, rng.word() & 0xffff, rng.word() | rng.word())).collect();
+    let b = &mut draft.builder;
+    let (one, fifteen) = (b.constant(16, 1), b.constant(16, 15));
+    let mut sum = b.node(Kind::Add, &[mark, length]);
+    let mut folded = b.node(Kind::Xor, &[mark, length]);
+    for &word in &data {
+        let up = b.node(Kind::Shl, &[sum, one]);
+        let down = b.node(Kind::Lshr, &[sum, fifteen]);
+        let turned = b.node(Kind::Xor, &[up, down]);
+        sum = b.node(Kind::Add, &[turned, word]);
+        folded = b.node(Kind::Xor, &[folded, word]);
+    }
+    for distance in [8, 4, 2, 1] {
+        let by = b.constant(16, distance);
+        let shifted = b.node(Kind::Lshr, &[folded, by]);
+        folded = b.node(Kind::Xor, &[folded, shifted]);
+    }
+    let parity = b.extract(folded, 0, 1);
+    let most = b.constant(16, words as u64 + 1);
+    let short = b.node(Kind::Below, &[length, most]);
+    b.root(short);
+    for (id, part) in [(sum, 0xffff), (parity, 1)] {
+        let value = draft.value(id);
+        assert!(value <= part);
+        draft.builder.root_equals(id, value);
+    }
+    draft.builder.root_equals(mark, 0xa55a);
+    draft.finish()
+}
+
+/// Products with a known answer: `count` factor pairs x, y of `width` bits with x · y, x · 6 + y and
+/// an order between them given.
+pub fn products(seed: u64, count: usize, width: u32) -> Solved {
+    let rng = &mut Rng::new(seed);
+    let mut draft = Draft::default();
+    for _ in 0..count {
+        let small = ones(width / 2);
+        let (x, y) = (rng.word() & small | 1, rng.word() & ones(width));
+        let x = draft.variable(width, x, small);
+        let y = draft.variable(width, y, u64::MAX);
+        let b = &mut draft.builder;
+        let product = b.node(Kind::Mul, &[x, y]);
+        let six = b.constant(width, 6);
+        let scaled = b.node(Kind::Mul, &[y, six]);
+        let zero = b.constant(width, 0);
+        let positive = b.node(Kind::Below, &[zero, x]);
+        b.root(positive);
+        for id in [product, scaled] {
+            let value = draft.value(id);
+            draft.builder.root_equals(id, value);
+        }
+    }
+    draft.finish()
+}
+
+/// A deep graph of exactly `size` nodes: half of it a chain through every kind in turn, each link
+/// with the chain and an earlier node as operands, then single conditions on the chain.
+pub fn deep(seed: u64, size: usize) -> Solved {
+    const WIDTH: u32 = 32;
+    let rng = &mut Rng::new(seed);
+    let mut draft = Draft::default();
+    let leaves = (size / 16).max(2);
+    let mut pool: Vec<u16> = Vec::new();
+    for _ in 0..leaves {
+        let open = if rng.chance(70) { u64::MAX } else { rng.word() | rng.word() };
+        pool.push(draft.variable(WIDTH, rng.value(WIDTH), open));
+    }
+    let mut roots = Vec::new();
+    let most_roots = (size / 256).clamp(1, 4);
+    // A link is at most three nodes; a condition on a node of the chain is two.
+    while draft.builder.len() + 3 + 2 * most_roots <= size {
+        let last = *pool.last().expect("there are leaves");
+        let other = if rng.chance(50) { pool[rng.below(leaves)] } else { rng.one_of(&pool) };
+        let link = link(rng, &mut draft.builder, last, other);
+        pool.push(link);
+        roots.push(link);
+    }
+    while draft.builder.len() + 2 * most_roots < size {
+        let (width, value) = (WIDTH, rng.value(WIDTH));
+        draft.builder.constant(width, value);
+    }
+    let every = roots.len().div_ceil(most_roots).max(1);
+    let mut chosen: Vec<u16> = roots.iter().rev().step_by(every).copied().collect();
+    while chosen.len() < most_roots {
+        chosen.push(roots[0]);
+    }
+    for id in chosen {
+        let value = draft.value(id);
+        draft.builder.root_equals(id, value);
+    }
+    assert_eq!(draft.builder.len(), size);
+    draft.finish()
+}
+
+/// One link of the deep graph: a node of the chain's width over its last node and another one.
+fn link(rng: &mut Rng, b: &mut Builder, last: u16, other: u16) -> u16 {
+    let width = b.width(last);
+    match rng.below(12) {
+        0 => b.node(Kind::Not, &[last]),
+        1 => b.node(Kind::Mul, &[last, other]),
+        2 => {
+            let by = b.constant(width, rng.between(1, 7) as u64);
+            let shifted = b.node(if rng.chance(50) { Kind::Shl } else { Kind::Lshr }, &[last, by]);
+            b.node(Kind::Xor, &[shifted, other])
+        }
+        3 => {
+            let below = b.node(Kind::Below, &[last, other]);
+            b.node(Kind::If, &[below, other, last])
+        }
+        4 => {
+            let cut = rng.between(1, width as usize - 1) as u32;
+            let (low, high) = (b.extract(last, 0, cut), b.extract(last, cut, width - cut));
+            b.node(Kind::Concat, &[low, high])
+        }
+        5 => b.node(Kind::And, &[last, other]),
+        6..=8 => b.node(Kind::Xor, &[last, other]),
+        _ => b.node(Kind::Add, &[last, other]),
+    }
+}
+
+/// A problem of the family of random ones with a solution: every kind and width.
+pub fn mixed(seed: u64, size: usize) -> Solved {
+    solved::solved(&mut Rng::new(seed), size)
+}
+
+/// A start at random for a family's problem.
+pub fn start(seed: u64, solved: &Solved) -> Vec<u64> {
+    solved::values(&mut Rng::new(seed), &solved.problem)
+}
+
+#[cfg(test)]
+mod tests {
+    use super::*;
+    use model::problem::read;
+
+    #[test]
+    fn every_family_is_accepted_and_solved() {
+        let sized = |size| [frame(1, 8 * size), products(2, size, 32), mixed(4, 8 * size)];
+        let deep = [16, 64, 256, 1024].map(|size| deep(3, size));
+        for solved in [1, 4].into_iter().flat_map(sized).chain(deep) {
+            assert_eq!(read(&solved.problem.bytes()).as_ref(), Ok(&solved.problem));
+            assert!(solved.problem.roots.iter().all(|&root| solved.solution[root as usize] == 1));
+        }
+    }
+}

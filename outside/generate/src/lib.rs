@@ -1,0 +1,27 @@
+//! Problems, starts and tapes from a seed.
+//!
+//! | module     | what it makes                                                          |
+//! |------------|------------------------------------------------------------------------|
+//! | `rng`      | numbers from a seed                                                    |
+//! | `builder`  | a problem node by node, widths worked out                              |
+//! | `random`   | well-formed problems over every kind and width                         |
+//! | `solved`   | problems with a known solution                                         |
+//! | `damage`   | one fault in a problem's bytes, for each of refusals 1 to 13           |
+//! | `case`     | everything that a run is lent, of all sorts mixed                      |
+//! | `spots`    | single nodes for picking: operators, pairs, values, targets            |
+//! | `tape`     | the words of a run as it asks for them, some share for the inverse     |
+//! | `families` | the benchmark's families, each with a known solution                   |
+
+pub mod builder;
+pub mod case;
+pub mod damage;
+pub mod families;
+pub mod random;
+pub mod rng;
+pub mod solved;
+pub mod spots;
+pub mod tape;
+
+pub use builder::Builder;
+pub use case::Case;
+pub use rng::Rng;

@@ -1,0 +1,135 @@
+//! The proved library in safe Rust: the problem check and the run, with answers as enums, and the
+//! picks of a single node.
+//!
+//! Every call takes whole slices and answers for every input; nothing has to hold beforehand. The
+//! calls behind them, with the library's own numbers, are in `raw`.
+
+pub mod raw;
+
+/// A refusal's number, 1 to 15, and its place: a node's id, a root's position, or 0.
+#[derive(Clone, Copy, Debug, PartialEq, Eq)]
+pub struct Refusal {
+    pub number: u8,
+    pub place: u32,
+}
+
+#[derive(Clone, Copy, Debug, PartialEq, Eq)]
+pub enum Verdict {
+    /// Every root is 1.
+    Model,
+    /// The budget is used up.
+    Spent,
+    /// The tape cannot serve a draw whole.
+    Ended,
+    /// A root is fixed at 0.
+    Closed,
+}
+
+#[derive(Clone, Copy, Debug, PartialEq, Eq)]
+pub enum Outcome {
+    Refused(Refusal),
+    Settled(Verdict),
+}
+
+/// What a run answers beside the values.
+#[derive(Clone, Copy, Debug, PartialEq, Eq)]
+pub struct Answer {
+    pub moves: u64,
+    pub steps: u64,
+    pub words: u64,
+    pub outcome: Outcome,
+}
+
+/// Whether a problem's bytes are accepted.
+pub fn check(problem: &[u8]) -> Result<(), Refusal> {
+    match raw::check(problem) {
+        0 => Ok(()),
+        refused => Err(Refusal { number: refused as u8, place: refused >> 8 }),
+    }
+}
+
+/// A whole run. Only the variables' places of `values` are read; after a verdict the first N hold
+/// every node's value, and after a refusal none is changed.
+pub fn run(problem: &[u8], values: &mut [u64], tape: &[u64], budget: u16) -> Answer {
+    let mut out = [0; 4];
+    let number = raw::run(problem, values, tape, budget, &mut out);
+    let [moves, steps, words, place] = out;
+    let outcome = match number {
+        0 => Outcome::Settled(Verdict::Model),
+        1 => Outcome::Settled(Verdict::Spent),
+        2 => Outcome::Settled(Verdict::Ended),
+        3 => Outcome::Settled(Verdict::Closed),
+        refused => Outcome::Refused(Refusal { number: (refused - 16) as u8, place: place as u32 }),
+    };
+    Answer { moves, steps, words, outcome }
+}
+
+/// The set that a value is picked from.
+#[derive(Clone, Copy, Debug, PartialEq, Eq)]
+pub enum Set {
+    Inverse,
+    Consistent,
+}
+
+/// A node taken out of its problem: kind (2 to 13), width, the lowest bit of extract (else 0), and of
+/// each operand the width, lo, hi and current value (zeros where there is none).
+#[derive(Clone, Copy, Debug, Default, PartialEq, Eq)]
+pub struct Spot {
+    pub kind: u8,
+    pub width: u32,
+    pub low: u32,
+    pub widths: [u32; 3],
+    pub los: [u64; 3],
+    pub his: [u64; 3],
+    pub values: [u64; 3],
+}
+
+/// The arguments are not those of a node of an accepted problem.
+#[derive(Clone, Copy, Debug, PartialEq, Eq)]
+pub struct NotANode;
+
+impl Spot {
+    fn words(&self) -> [u64; 12] {
+        let mut words = [0; 12];
+        words[0..3].copy_from_slice(&self.widths.map(u64::from));
+        words[3..6].copy_from_slice(&self.los);
+        words[6..9].copy_from_slice(&self.his);
+        words[9..12].copy_from_slice(&self.values);
+        words
+    }
+}
+
+/// The pick from a set of an operand's position, for a target and a proposal; none from an empty set.
+pub fn pick(
+    spot: &Spot,
+    set: Set,
+    position: u32,
+    target: u64,
+    proposal: u64,
+) -> Result<Option<u64>, NotANode> {
+    let mut out = [0];
+    match raw::pick(
+        spot.kind,
+        spot.width,
+        spot.low,
+        &spot.words(),
+        position,
+        target,
+        proposal,
+        set as u8,
+        &mut out,
+    ) {
+        0 => Ok(None),
+        1 => Ok(Some(out[0])),
+        _ => Err(NotANode),
+    }
+}
+
+/// Whether an operand's position is essential for a target.
+pub fn essential(spot: &Spot, position: u32, target: u64) -> Result<bool, NotANode> {
+    match raw::essential(spot.kind, spot.width, spot.low, &spot.words(), position, target) {
+        0 => Ok(false),
+        1 => Ok(true),
+        _ => Err(NotANode),
+    }
+}

@@ -1,0 +1,111 @@
+//! The exported calls with the library's own numbers, on slices.
+
+#[cfg(stub)]
+extern crate stub as _;
+
+mod calls {
+    extern "C" {
+        pub fn wal_check(problem: *const u8, problem_len: usize) -> u32;
+        pub fn wal_run(
+            problem: *const u8,
+            problem_len: usize,
+            values: *mut u64,
+            values_len: usize,
+            tape: *const u64,
+            tape_len: usize,
+            budget: u16,
+            out: *mut u64,
+            out_len: usize,
+        ) -> u32;
+        pub fn wal_pick(
+            kind: u8,
+            width: u32,
+            low: u32,
+            spot: *const u64,
+            spot_len: usize,
+            position: u32,
+            target: u64,
+            proposal: u64,
+            which: u8,
+            out: *mut u64,
+            out_len: usize,
+        ) -> u8;
+        pub fn wal_essential(
+            kind: u8,
+            width: u32,
+            low: u32,
+            spot: *const u64,
+            spot_len: usize,
+            position: u32,
+            target: u64,
+        ) -> u8;
+    }
+}
+
+/// Whether the model stands in for the proved library.
+pub const IS_STUB: bool = cfg!(stub);
+
+/// 0 where the problem is accepted, else the refusal's number + 256 × its place.
+pub fn check(problem: &[u8]) -> u32 {
+    // SAFETY: the pointer and length are those of a slice, which is only read.
+    unsafe { calls::wal_check(problem.as_ptr(), problem.len()) }
+}
+
+/// 0 model, 1 spent, 2 ended, 3 closed, or 16 + the refusal's number. `out` takes moves, steps,
+/// words and the refusal's place.
+pub fn run(problem: &[u8], values: &mut [u64], tape: &[u64], budget: u16, out: &mut [u64; 4]) -> u32 {
+    // SAFETY: the pointers and lengths are those of slices; the two that are written are borrowed
+    // for this call alone.
+    unsafe {
+        calls::wal_run(
+            problem.as_ptr(),
+            problem.len(),
+            values.as_mut_ptr(),
+            values.len(),
+            tape.as_ptr(),
+            tape.len(),
+            budget,
+            out.as_mut_ptr(),
+            out.len(),
+        )
+    }
+}
+
+/// 1 with the value in `out`, 0 where the set is empty, 2 where the arguments are refused.
+#[allow(clippy::too_many_arguments)]
+#[inline]
+pub fn pick(
+    kind: u8,
+    width: u32,
+    low: u32,
+    spot: &[u64; 12],
+    position: u32,
+    target: u64,
+    proposal: u64,
+    which: u8,
+    out: &mut [u64; 1],
+) -> u8 {
+    // SAFETY: as above.
+    unsafe {
+        calls::wal_pick(
+            kind,
+            width,
+            low,
+            spot.as_ptr(),
+            spot.len(),
+            position,
+            target,
+            proposal,
+            which,
+            out.as_mut_ptr(),
+            out.len(),
+        )
+    }
+}
+
+/// 1 where the position is essential, 0 where it is not, 2 where the arguments are refused.
+#[inline]
+pub fn essential(kind: u8, width: u32, low: u32, spot: &[u64; 12], position: u32, target: u64) -> u8 {
+    // SAFETY: as above.
+    unsafe { calls::wal_essential(kind, width, low, spot.as_ptr(), spot.len(), position, target) }
+}

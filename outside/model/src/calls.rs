@@ -1,0 +1,106 @@
+//! The proved library's four calls as the model answers them, in the library's own numbers: what each
+//! must answer.
+
+use crate::problem::read;
+use crate::{exact, ones, run as model_run, Answer, Kind, Operator, Outcome, Pair, Set, Spot};
+
+/// The words that describe a node's operands: widths, los, his and current values of a, b and c.
+pub const SPOT_WORDS: usize = 12;
+
+/// 0 where the problem is accepted, else the refusal's number + 256 × its place.
+pub fn check(problem: &[u8]) -> u32 {
+    match read(problem) {
+        Ok(_) => 0,
+        Err(refusal) => u32::from(refusal.number) + 256 * refusal.place as u32,
+    }
+}
+
+/// The run's answer in numbers.
+pub fn run(problem: &[u8], values: &mut [u64], tape: &[u64], budget: u16, out: &mut [u64]) -> u32 {
+    numbers(&model_run(problem, values, tape, budget), out)
+}
+
+/// 0 model, 1 spent, 2 ended, 3 closed, or 16 + a refusal's number. `out` takes moves, steps, words
+/// and the refusal's place.
+pub fn numbers(answer: &Answer, out: &mut [u64]) -> u32 {
+    let (number, place) = match answer.outcome {
+        Outcome::Settled(verdict) => (verdict as u32, 0),
+        Outcome::Refused(refusal) => (16 + u32::from(refusal.number), refusal.place),
+    };
+    out[..4].copy_from_slice(&[answer.moves, answer.steps, answer.words, place as u64]);
+    number
+}
+
+/// 1 with the value in `out[0]`, 0 where the set (0 inverse, 1 consistent) is empty, 2 where the
+/// arguments are not those of a node of an accepted problem.
+#[allow(clippy::too_many_arguments)]
+pub fn pick(
+    kind: u8,
+    width: u32,
+    low: u32,
+    words: &[u64],
+    position: u32,
+    target: u64,
+    proposal: u64,
+    which: u8,
+    out: &mut [u64],
+) -> u8 {
+    let set = match which {
+        0 => Set::Inverse,
+        1 => Set::Consistent,
+        _ => return 2,
+    };
+    let Some(spot) = spot(kind, width, low, words, position, target) else {
+        return 2;
+    };
+    match exact::pick(&spot, set, position as usize, target, proposal) {
+        None => 0,
+        Some(value) => {
+            out[0] = value;
+            1
+        }
+    }
+}
+
+/// 1 where the position is essential, 0 where it is not, 2 as above.
+pub fn essential(kind: u8, width: u32, low: u32, words: &[u64], position: u32, target: u64) -> u8 {
+    match spot(kind, width, low, words, position, target) {
+        None => 2,
+        Some(spot) => u8::from(exact::essential(&spot, position as usize, target)),
+    }
+}
+
+/// The words that describe a spot's operands.
+pub fn words_of(spot: &Spot) -> [u64; SPOT_WORDS] {
+    let mut words = [0; SPOT_WORDS];
+    for at in 0..3 {
+        words[at] = u64::from(spot.operator.widths[at]);
+        words[3 + at] = spot.pairs[at].lo;
+        words[6 + at] = spot.pairs[at].hi;
+        words[9 + at] = spot.values[at];
+    }
+    words
+}
+
+/// The spot of a call, if the arguments are those of a node of an accepted problem: an operator with
+/// that position whose widths fit, operands that are ternary words of their width with current
+/// values that agree, zeros where the kind has no operand, and a target of the node's width.
+fn spot(kind: u8, width: u32, low: u32, words: &[u64], position: u32, target: u64) -> Option<Spot> {
+    let kind = Kind::from_number(kind)?;
+    if words.len() != SPOT_WORDS || position as usize >= kind.operands() {
+        return None;
+    }
+    let at = |group: usize, position: usize| words[3 * group + position];
+    let unused = (kind.operands()..3).all(|position| (0..4).all(|group| at(group, position) == 0));
+    let sized = (0..kind.operands()).all(|position| (1..=64).contains(&at(0, position)));
+    if !unused || !sized || !(1..=64).contains(&width) || low > 64 || (kind != Kind::Extract && low != 0) {
+        return None;
+    }
+    let positions = [0, 1, 2];
+    let operator = Operator { kind, width, widths: positions.map(|position| at(0, position) as u32), low };
+    let pairs = positions.map(|position| Pair { lo: at(1, position), hi: at(2, position) });
+    let values = positions.map(|position| at(3, position));
+    let agree =
+        positions.iter().all(|&p| pairs[p].is_ternary(operator.widths[p]) && pairs[p].agrees(values[p]));
+    (operator.widths_fit() && agree && target <= ones(width)).then_some(Spot { operator, pairs, values })
+}

@@ -1,0 +1,241 @@
+//! The sets and the pick at every width, by one question: does a ternary word hold a member?
+//!
+//! `meets` answers that question for the inverse and the consistent set of each operator and
+//! position. The least member at or above a proposal is then found by asking it of ever narrower
+//! ternary words, bit by bit, the same way for all kinds. Tests hold all of it against `definition`.
+
+use crate::operator::Kind;
+use crate::word::{ones, Pair};
+use crate::{Set, Spot};
+
+/// The pick from a set of a position.
+pub fn pick(spot: &Spot, set: Set, position: usize, target: u64, proposal: u64) -> Option<u64> {
+    let holds = |word: Pair| {
+        spot.pairs[position].meet(word).is_some_and(|word| meets(spot, set, position, target, word))
+    };
+    let width = spot.operator.widths[position];
+    let p = proposal & ones(width);
+    first_from(&holds, width, p).or_else(|| least(&holds, width, Pair::free(width)))
+}
+
+/// The essential test: with this operand at its current value alone, is no value of the others
+/// that agrees an inverse one?
+pub fn essential(spot: &Spot, position: usize, target: u64) -> bool {
+    let mine = spot.values[position];
+    let [a, b, c] = spot.pairs;
+    let reached = match (spot.operator.kind, position) {
+        (Kind::Not | Kind::Extract, _) => spot.operator.apply(spot.values) == target,
+        (Kind::If, 0) if mine == 1 => b.agrees(target),
+        (Kind::If, 0) => c.agrees(target),
+        (Kind::If, 1) => a.agrees(1) && mine == target || a.agrees(0) && c.agrees(target),
+        (Kind::If, _) => a.agrees(0) && mine == target || a.agrees(1) && b.agrees(target),
+        _ => meets(spot, Set::Inverse, 1 - position, target, spot.pairs[1 - position]),
+    };
+    !reached
+}
+
+/// The least value at or above `p` for which the question holds. Such a value is `p` itself or
+/// shares `p`'s bits above some bit that is 0 in `p` and 1 in it: the lower that bit, the less the value.
+fn first_from(holds: &impl Fn(Pair) -> bool, width: u32, p: u64) -> Option<u64> {
+    if holds(Pair::fixed(p)) {
+        return Some(p);
+    }
+    (0..width).filter(|&i| p >> i & 1 == 0).find_map(|i| {
+        let above = p & !ones(i) | 1 << i;
+        least(holds, width, Pair { lo: above, hi: above | ones(i) })
+    })
+}
+
+/// The least value in a ternary word for which the question holds: from the top bit down, 0 where
+/// that leaves a member.
+fn least(holds: &impl Fn(Pair) -> bool, width: u32, mut word: Pair) -> Option<u64> {
+    if !holds(word) {
+        return None;
+    }
+    for i in (0..width).rev().filter(|&i| word.open() >> i & 1 == 1).collect::<Vec<_>>() {
+        let zero = Pair { lo: word.lo, hi: word.hi & !(1 << i) };
+        if holds(zero) {
+            word = zero;
+        } else {
+            word.lo |= 1 << i;
+        }
+    }
+    Some(word.lo)
+}
+
+/// Whether a value that agrees with `word` gives the target, the other positions at their current
+/// values (inverse) or at any values of their width (consistent).
+fn meets(spot: &Spot, set: Set, position: usize, target: u64, word: Pair) -> bool {
+    match set {
+        Set::Inverse => meets_inverse(spot, position, target, word),
+        Set::Consistent => meets_consistent(spot, position, target, word),
+    }
+}
+
+fn meets_inverse(spot: &Spot, position: usize, t: u64, word: Pair) -> bool {
+    let operator = &spot.operator;
+    let w = operator.width;
+    let all = ones(w);
+    let [a, b, c] = spot.values;
+    let other = if position == 0 { b } else { a };
+    match (operator.kind, position) {
+        (Kind::Variable | Kind::Constant, _) => panic!("no operands"),
+        (Kind::Not, _) => word.agrees(all & !t),
+        // A bit at 1 needs both; a bit at 0 needs the other at 0 or this one not fixed at 1.
+        (Kind::And, _) => t & other & word.hi | !t & !(other & word.lo) == u64::MAX,
+        (Kind::Xor, _) => word.agrees(t ^ other),
+        (Kind::Add, _) => word.agrees(t.wrapping_sub(other) & all),
+        (Kind::Mul, _) => meets_factor(word, other, t, w),
+        (Kind::Shl | Kind::Lshr, 0) => shifted(operator.kind, w, word, b).agrees(t),
+        (Kind::Shl | Kind::Lshr, _) => some_amount(w, word, |by| operator.apply([a, by, 0]) == t),
+        (Kind::Eq, _) if t == 1 => word.agrees(other),
+        (Kind::Eq, _) => word != Pair::fixed(other),
+        (Kind::Below, 0) if t == 1 => word.lo < b,
+        (Kind::Below, 0) => word.hi >= b,
+        (Kind::Below, _) if t == 1 => word.hi > a,
+        (Kind::Below, _) => word.lo <= a,
+        (Kind::If, 0) => word.agrees(1) && b == t || word.agrees(0) && c == t,
+        (Kind::If, 1) if a == 1 => word.agrees(t),
+        (Kind::If, 1) => c == t,
+        (Kind::If, _) if a == 0 => word.agrees(t),
+        (Kind::If, _) => b == t,
+        (Kind::Concat, 0) => word.agrees(t >> operator.widths[1]) && b == t & ones(operator.widths[1]),
+        (Kind::Concat, _) => word.agrees(t & ones(operator.widths[1])) && a == t >> operator.widths[1],
+        (Kind::Extract, _) => word.part(operator.low, w).agrees(t),
+    }
+}
+
+fn meets_consistent(spot: &Spot, position: usize, t: u64, word: Pair) -> bool {
+    let operator = &spot.operator;
+    let w = operator.width;
+    match (operator.kind, position) {
+        // The others are any at all: at each bit, a 0 is always reached and a 1 needs this bit.
+        (Kind::And, _) => t & !word.hi == 0,
+        // Whatever this operand is, the other one makes up for it: by the difference, by the other
+        // branch with the condition set for it, by an equal or another value.
+        (Kind::Xor | Kind::Add | Kind::If | Kind::Eq, _) => true,
+        // x · s = t has a solution s exactly if t is 0 or has at least as many zeros at its end as x.
+        (Kind::Mul, _) => t == 0 || word.hi & ones(t.trailing_zeros() + 1) != 0,
+        // Amount w stands for all of w and more, and is a value of w bits.
+        (Kind::Shl | Kind::Lshr, 0) => {
+            (0..=u64::from(w)).any(|by| shifted(operator.kind, w, word, by).agrees(t))
+        }
+        (Kind::Shl | Kind::Lshr, _) => {
+            some_amount(w, word, |by| shifted(operator.kind, w, Pair::free(w), by).agrees(t))
+        }
+        (Kind::Below, 0) => t == 0 || word.lo < operator.largest(1),
+        (Kind::Below, _) => t == 0 || word.hi > 0,
+        (Kind::Concat, 0) => word.agrees(t >> operator.widths[1]),
+        (Kind::Concat, _) => word.agrees(t & ones(operator.widths[1])),
+        (Kind::Not | Kind::Extract, _) => meets_inverse(spot, position, t, word),
+        (Kind::Variable | Kind::Constant, _) => panic!("no operands"),
+    }
+}
+
+/// Whether x · s = t modulo 2^w for an x that agrees with `word`, by long division from the low
+/// end: with k zeros at the end of s, bit i of x is what is left of t at bit i + k.
+fn meets_factor(word: Pair, s: u64, t: u64, w: u32) -> bool {
+    let s_zeros = s.trailing_zeros().min(w);
+    if t & ones(s_zeros) != 0 {
+        return false;
+    }
+    let mut left = t;
+    for i in 0..w - s_zeros {
+        let bit = left >> (i + s_zeros) & 1;
+        if bit == 1 {
+            left = left.wrapping_sub(s << i) & ones(w);
+        }
+        if !word.part(i, 1).agrees(bit) {
+            return false;
+        }
+    }
+    debug_assert_eq!(left, 0);
+    true
+}
+
+/// The results of shifting by a known amount the values that agree with a word: a ternary word again.
+fn shifted(kind: Kind, w: u32, word: Pair, by: u64) -> Pair {
+    if by >= u64::from(w) {
+        return Pair::fixed(0);
+    }
+    let shift = |v: u64| if kind == Kind::Shl { v << by & ones(w) } else { v >> by };
+    Pair { lo: shift(word.lo), hi: shift(word.hi) }
+}
+
+/// Whether a shift amount that agrees with `word` is good. All amounts from w on do the same.
+fn some_amount(w: u32, word: Pair, good: impl Fn(u64) -> bool) -> bool {
+    let w = u64::from(w);
+    (0..w).any(|by| word.agrees(by) && good(by)) || word.hi >= w && good(w)
+}
+
+#[cfg(test)]
+mod tests {
+    use super::*;
+    use crate::definition;
+    use crate::operator::all_operators;
+    use crate::word::all_pairs;
+
+    /// Every pair and agreeing value that an operand may have.
+    fn operands(width: u32) -> Vec<(Pair, u64)> {
+        if width == 0 {
+            return vec![(Pair::default(), 0)];
+        }
+        all_pairs(width).into_iter().flat_map(|pair| pair.members().map(move |v| (pair, v))).collect()
+    }
+
+    fn for_every_spot(most: u32, widest: u32, mut see: impl FnMut(&Spot)) {
+        for operator in all_operators(most, widest) {
+            let [first, second, third] = operator.widths.map(operands);
+            for &(a, x) in &first {
+                for &(b, y) in &second {
+                    for &(c, z) in &third {
+                        see(&Spot { operator, pairs: [a, b, c], values: [x, y, z] });
+                    }
+                }
+            }
+        }
+    }
+
+    fn check_spot(spot: &Spot, proposals: impl Iterator<Item = u64> + Clone) {
+        for position in 0..spot.operator.kind.operands() {
+            let width = spot.operator.widths[position];
+            for target in 0..=ones(spot.operator.width) {
+                assert_eq!(
+                    essential(spot, position, target),
+                    definition::essential(spot, position, target),
+                    "{spot:?} {position} {target}"
+                );
+                for set in [Set::Inverse, Set::Consistent] {
+                    let members = definition::members(spot, set, position, target);
+                    for word in
+                        all_pairs(width).into_iter().filter_map(|word| word.meet(spot.pairs[position]))
+                    {
+                        assert_eq!(
+                            meets(spot, set, position, target, word),
+                            members.iter().any(|&v| word.agrees(v)),
+                            "{spot:?} {set:?} {position} {target} {word:?}"
+                        );
+                    }
+                    for p in proposals.clone() {
+                        let picked = pick(spot, set, position, target, p);
+                        assert_eq!(
+                            picked,
+                            definition::pick(&members, width, p),
+                            "{spot:?} {set:?} {position} {target} {p}"
+                        );
+                    }
+                }
+            }
+        }
+    }
+
+    #[test]
+    fn sets_and_picks_are_those_of_the_definitions_to_two_bits() {
+        for_every_spot(2, 4, |spot| check_spot(spot, 0..6));
+    }
+
+    #[test]
+    fn sets_and_picks_are_those_of_the_definitions_at_three_bits() {
+        for_every_spot(3, 3, |spot| check_spot(spot, 0..9));
+    }
+}

@@ -1,0 +1,181 @@
+//! Fixed bits of inner nodes, worked out from the operands upward.
+
+use crate::operator::{Kind, Operator};
+use crate::problem::Problem;
+use crate::word::{ones, Pair};
+
+/// Every node's pair.
+pub fn pairs(problem: &Problem) -> Vec<Pair> {
+    let mut pairs = Vec::with_capacity(problem.nodes.len());
+    for (id, node) in problem.nodes.iter().enumerate() {
+        pairs.push(match node.kind {
+            Kind::Variable | Kind::Constant => node.pair,
+            _ => result(&problem.operator(id), problem.at_operands(id, &pairs)),
+        });
+    }
+    pairs
+}
+
+/// The pair of an operator's result, from its operands' pairs.
+pub fn result(operator: &Operator, [a, b, c]: [Pair; 3]) -> Pair {
+    let w = operator.width;
+    let all = ones(w);
+    match operator.kind {
+        Kind::Variable | Kind::Constant => panic!("a {} carries its pair", operator.kind.name()),
+        // Bit by bit, a result bit is fixed at 1 where it is 1 for every choice, and at 0 likewise.
+        Kind::Not => Pair { lo: all & !a.hi, hi: all & !a.lo },
+        Kind::And => Pair { lo: a.lo & b.lo, hi: a.hi & b.hi },
+        Kind::Xor => {
+            let open = a.open() | b.open();
+            Pair { lo: (a.lo ^ b.lo) & !open, hi: a.lo ^ b.lo | open }
+        }
+        Kind::Concat => {
+            let join = |high: u64, low: u64| high << operator.widths[1] | low;
+            Pair { lo: join(a.lo, b.lo), hi: join(a.hi, b.hi) }
+        }
+        Kind::Extract => a.part(operator.low, w),
+        // "let k be the lowest position free in either operand (w if none). The low k bits are
+        // fixed, as computed; the others are free."
+        Kind::Add | Kind::Mul => {
+            let k = (a.open() | b.open()).trailing_zeros().min(w);
+            let computed = operator.apply([a.lo, b.lo, 0]) & ones(k);
+            Pair { lo: computed, hi: computed | all & !ones(k) }
+        }
+        // "with a fully fixed amount, the shifted pair (filled places fixed at 0); else all free"
+        Kind::Shl | Kind::Lshr if b.is_fixed() => {
+            let shifted = |v: u64| operator.apply([v, b.lo, 0]);
+            Pair { lo: shifted(a.lo), hi: shifted(a.hi) }
+        }
+        Kind::Shl | Kind::Lshr => Pair::free(w),
+        // "0 if some position is fixed both sides and differs; 1 if both are fully fixed and equal"
+        Kind::Eq if (a.lo ^ b.lo) & !a.open() & !b.open() != 0 => Pair::fixed(0),
+        Kind::Eq if a.is_fixed() && b.is_fixed() => Pair::fixed(1),
+        Kind::Eq => Pair::free(1),
+        // "1 if a's hi is below b's lo; 0 if a's lo is at least b's hi; else free"
+        Kind::Below if a.hi < b.lo => Pair::fixed(1),
+        Kind::Below if a.lo >= b.hi => Pair::fixed(0),
+        Kind::Below => Pair::free(1),
+        // "the chosen branch if the condition is fixed; else the bits fixed alike in both branches"
+        Kind::If if a == Pair::fixed(1) => b,
+        Kind::If if a == Pair::fixed(0) => c,
+        Kind::If => Pair { lo: b.lo & c.lo, hi: b.hi | c.hi },
+    }
+}
+
+/// The pair of the bits that an operator forces: those that are the same for every choice of
+/// operands that agree. By going through all of them: for small widths.
+pub fn forced(operator: &Operator, pairs: [Pair; 3]) -> Pair {
+    let mut found = Pair { lo: ones(operator.width), hi: 0 };
+    for a in pairs[0].members() {
+        for b in pairs[1].members() {
+            for c in pairs[2].members() {
+                let value = operator.apply([a, b, c]);
+                found.lo &= value;
+                found.hi |= value;
+            }
+        }
+    }
+    found
+}
+
+#[cfg(test)]
+mod tests {
+    use super::*;
+    use crate::operator::all_operators;
+    use crate::word::all_pairs;
+
+    /// The pairs that an operand may have; a position without an operand has zeros.
+    fn choices(width: u32) -> Vec<Pair> {
+        if width == 0 {
+            vec![Pair::default()]
+        } else {
+            all_pairs(width)
+        }
+    }
+
+    fn for_every_operator_and_pairs(mut see: impl FnMut(&Operator, [Pair; 3])) {
+        for operator in all_operators(3, 6) {
+            for a in choices(operator.widths[0]) {
+                for b in choices(operator.widths[1]) {
+                    for c in choices(operator.widths[2]) {
+                        see(&operator, [a, b, c]);
+                    }
+                }
+            }
+        }
+    }
+
+    #[test]
+    fn bitwise_kinds_fix_exactly_the_forced_bits() {
+        for_every_operator_and_pairs(|operator, pairs| {
+            if matches!(operator.kind, Kind::Not | Kind::And | Kind::Xor | Kind::Concat | Kind::Extract) {
+                assert_eq!(result(operator, pairs), forced(operator, pairs), "{operator:?} {pairs:?}");
+            }
+        });
+    }
+
+    #[test]
+    fn no_kind_fixes_a_bit_that_is_not_forced() {
+        for_every_operator_and_pairs(|operator, pairs| {
+            let (fixed, forced) = (result(operator, pairs), forced(operator, pairs));
+            assert!(fixed.is_ternary(operator.width));
+            assert!(fixed.agrees(forced.lo) && fixed.agrees(forced.hi), "{operator:?} {pairs:?}");
+        });
+    }
+
+    /// The rules of the paper, said again bit by bit in other words.
+    #[test]
+    fn the_other_kinds_fix_what_the_paper_says() {
+        let bit = |v: u64, i: u32| v >> i & 1;
+        let fixed_at = |p: Pair, i: u32| bit(p.lo, i) == bit(p.hi, i);
+        for_every_operator_and_pairs(|operator, pairs| {
+            let found = result(operator, pairs);
+            let [a, b, c] = pairs;
+            let w = operator.width;
+            for i in 0..w {
+                let fixed = fixed_at(found, i);
+                match operator.kind {
+                    Kind::Add | Kind::Mul => {
+                        let all_below = (0..=i).all(|j| fixed_at(a, j) && fixed_at(b, j));
+                        assert_eq!(fixed, all_below);
+                    }
+                    Kind::Shl | Kind::Lshr if !b.is_fixed() => assert!(!fixed),
+                    Kind::Shl | Kind::Lshr => {
+                        let from = if operator.kind == Kind::Shl {
+                            u64::from(i).checked_sub(b.lo)
+                        } else {
+                            Some(u64::from(i) + b.lo).filter(|&j| j < u64::from(w))
+                        };
+                        match from {
+                            Some(j) => assert_eq!(
+                                (bit(found.lo, i), bit(found.hi, i)),
+                                (a.lo >> j & 1, a.hi >> j & 1)
+                            ),
+                            None => assert_eq!((bit(found.lo, i), bit(found.hi, i)), (0, 0)),
+                        }
+                    }
+                    Kind::Eq => {
+                        let differs = (0..operator.widths[0])
+                            .any(|j| fixed_at(a, j) && fixed_at(b, j) && bit(a.lo, j) != bit(b.lo, j));
+                        let same = a.is_fixed() && a == b;
+                        assert_eq!(
+                            found,
+                            if differs {
+                                Pair::fixed(0)
+                            } else if same {
+                                Pair::fixed(1)
+                            } else {
+                                Pair::free(1)
+                            }
+                        );
+                    }
+                    Kind::If if a.is_fixed() => assert_eq!(found, if a.lo == 1 { b } else { c }),
+                    Kind::If => {
+                        assert_eq!(fixed, fixed_at(b, i) && fixed_at(c, i) && bit(b.lo, i) == bit(c.lo, i))
+                    }
+                    _ => {}
+                }
+            }
+        });
+    }
+}

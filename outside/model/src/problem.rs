@@ -1,0 +1,179 @@
+//! Problem bytes: reading them with refusals 1 to 13, writing them, evaluation, and H.
+
+use crate::operator::{Kind, Operator};
+use crate::word::Pair;
+
+pub const HEADER: usize = 9;
+pub const NODE: usize = 24;
+pub const MOST_NODES: usize = 1024;
+pub const MOST_ROOTS: usize = 256;
+
+/// A refusal and its place: a node's id, a root's position, or 0.
+#[derive(Clone, Copy, Debug, PartialEq, Eq)]
+pub struct Refusal {
+    pub number: u8,
+    pub place: usize,
+}
+
+/// A node of an accepted problem. `fields` are a, b, c; `pair` is lo, hi as written.
+#[derive(Clone, Copy, Debug, PartialEq, Eq)]
+pub struct Node {
+    pub kind: Kind,
+    pub width: u32,
+    pub fields: [u16; 3],
+    pub pair: Pair,
+}
+
+impl Node {
+    /// The ids of the operands.
+    pub fn operands(&self) -> &[u16] {
+        &self.fields[..self.kind.operands()]
+    }
+}
+
+/// A problem. Those that `read` gives are accepted ones.
+#[derive(Clone, Debug, Default, PartialEq, Eq)]
+pub struct Problem {
+    pub nodes: Vec<Node>,
+    pub roots: Vec<u16>,
+}
+
+/// A little-endian number.
+fn number(bytes: &[u8]) -> u64 {
+    bytes.iter().rev().fold(0, |n, &byte| n << 8 | u64::from(byte))
+}
+
+/// The problem that the bytes hold, or the first refusal in the order of checking.
+pub fn read(bytes: &[u8]) -> Result<Problem, Refusal> {
+    let refuse = |number, place| Err(Refusal { number, place });
+    if bytes.len() < HEADER {
+        return refuse(1, 0);
+    }
+    if &bytes[0..3] != b"TBV" {
+        return refuse(2, 0);
+    }
+    if number(&bytes[3..5]) != 1 {
+        return refuse(3, 0);
+    }
+    let node_count = number(&bytes[5..7]) as usize;
+    if node_count > MOST_NODES {
+        return refuse(4, 0);
+    }
+    let root_count = number(&bytes[7..9]) as usize;
+    if root_count > MOST_ROOTS {
+        return refuse(5, 0);
+    }
+    if bytes.len() != HEADER + NODE * node_count + 2 * root_count {
+        return refuse(6, 0);
+    }
+    let (nodes, roots) = bytes[HEADER..].split_at(NODE * node_count);
+    let mut problem = Problem::default();
+    for part in nodes.chunks(NODE) {
+        let node = read_node(part, &problem.nodes)?;
+        problem.nodes.push(node);
+    }
+    for (place, part) in roots.chunks(2).enumerate() {
+        let root = number(part) as u16;
+        match problem.nodes.get(root as usize) {
+            Some(node) if node.width == 1 => problem.roots.push(root),
+            _ => return refuse(13, place),
+        }
+    }
+    Ok(problem)
+}
+
+/// One node from its 24 bytes, after those before it; or its first refusal of 7 to 12.
+fn read_node(part: &[u8], before: &[Node]) -> Result<Node, Refusal> {
+    let own = before.len();
+    let refuse = |number| Err(Refusal { number, place: own });
+    let Some(kind) = Kind::from_number(part[0]) else {
+        return refuse(7);
+    };
+    let width = u32::from(part[1]);
+    if width == 0 || width > 64 {
+        return refuse(8);
+    }
+    let fields = [2, 4, 6].map(|at| number(&part[at..at + 2]) as u16);
+    let pair = Pair { lo: number(&part[8..16]), hi: number(&part[16..24]) };
+    let node = Node { kind, width, fields, pair };
+    if node.operands().iter().any(|&id| id as usize >= own) {
+        return refuse(9);
+    }
+    let carries_pair = kind == Kind::Variable || kind == Kind::Constant;
+    if fields[kind.fields()..].iter().any(|&field| field != 0) || !carries_pair && pair != Pair::default() {
+        return refuse(10);
+    }
+    if !operator(&node, before).widths_fit() {
+        return refuse(11);
+    }
+    if carries_pair && !pair.is_ternary(width) || kind == Kind::Constant && pair.lo != pair.hi {
+        return refuse(12);
+    }
+    Ok(node)
+}
+
+/// A node's operator, where its operands are among `nodes`.
+fn operator(node: &Node, nodes: &[Node]) -> Operator {
+    let mut widths = [0; 3];
+    for (width, &id) in widths.iter_mut().zip(node.operands()) {
+        *width = nodes[id as usize].width;
+    }
+    let low = if node.kind == Kind::Extract { u32::from(node.fields[1]) } else { 0 };
+    Operator { kind: node.kind, width: node.width, widths, low }
+}
+
+impl Problem {
+    pub fn operator(&self, id: usize) -> Operator {
+        operator(&self.nodes[id], &self.nodes)
+    }
+
+    /// What a list with a place for each node has at a node's operands; `T`'s default where there is none.
+    pub fn at_operands<T: Copy + Default>(&self, id: usize, list: &[T]) -> [T; 3] {
+        let mut found = [T::default(); 3];
+        for (place, &operand) in found.iter_mut().zip(self.nodes[id].operands()) {
+            *place = list[operand as usize];
+        }
+        found
+    }
+
+    /// The ids of the variables, ascending.
+    pub fn variables(&self) -> impl Iterator<Item = usize> + '_ {
+        (0..self.nodes.len()).filter(|&id| self.nodes[id].kind == Kind::Variable)
+    }
+
+    /// Sets every node's value from the variables' values. Only variables' places are read.
+    pub fn evaluate(&self, values: &mut [u64]) {
+        for (id, node) in self.nodes.iter().enumerate() {
+            match node.kind {
+                Kind::Variable => {}
+                Kind::Constant => values[id] = node.pair.lo,
+                _ => values[id] = self.operator(id).apply(self.at_operands(id, values)),
+            }
+        }
+    }
+
+    /// H, "the longest chain of operand links under any root, 0 if there are none".
+    pub fn height(&self) -> usize {
+        let mut links = vec![0; self.nodes.len()];
+        for (id, node) in self.nodes.iter().enumerate() {
+            links[id] = node.operands().iter().map(|&operand| links[operand as usize] + 1).max().unwrap_or(0);
+        }
+        self.roots.iter().map(|&root| links[root as usize]).max().unwrap_or(0)
+    }
+
+    /// The problem's bytes.
+    pub fn bytes(&self) -> Vec<u8> {
+        let mut bytes = b"TBV".to_vec();
+        for count in [1, self.nodes.len(), self.roots.len()] {
+            bytes.extend((count as u16).to_le_bytes());
+        }
+        for node in &self.nodes {
+            bytes.extend([node.kind.number(), node.width as u8]);
+            bytes.extend(node.fields.iter().flat_map(|field| field.to_le_bytes()));
+            bytes.extend(node.pair.lo.to_le_bytes());
+            bytes.extend(node.pair.hi.to_le_bytes());
+        }
+        bytes.extend(self.roots.iter().flat_map(|root| root.to_le_bytes()));
+        bytes
+    }
+}

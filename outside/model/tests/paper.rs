@@ -1,0 +1,178 @@
+//! The paper's worked example and its numbers to test by, of the whole model from bytes on.
+
+use model::files::{bytes_of, printed, tape_file};
+use model::problem::read;
+use model::{
+    definition, exact, pairs, Kind, Node, Operator, Outcome, Pair, Problem, Refusal, Set, Spot, Verdict,
+};
+
+fn variable(width: u32, pair: Pair) -> Node {
+    Node { kind: Kind::Variable, width, fields: [0; 3], pair }
+}
+
+fn constant(width: u32, value: u64) -> Node {
+    Node { kind: Kind::Constant, width, fields: [0; 3], pair: Pair::fixed(value) }
+}
+
+fn node(kind: Kind, width: u32, fields: [u16; 3]) -> Node {
+    Node { kind, width, fields, pair: Pair::default() }
+}
+
+/// 0 variable (4 bits, all free), 1 constant 6, 2 mul of 0 and 1, 3 constant 2, 4 eq of 2 and 3; root 4.
+fn worked_example() -> Problem {
+    Problem {
+        nodes: vec![
+            variable(4, Pair::free(4)),
+            constant(4, 6),
+            node(Kind::Mul, 4, [0, 1, 0]),
+            constant(4, 2),
+            node(Kind::Eq, 1, [2, 3, 0]),
+        ],
+        roots: vec![4],
+    }
+}
+
+#[test]
+fn the_worked_example() {
+    let problem = worked_example().bytes();
+    let printed = printed(&problem, &bytes_of(&[0; 5]), &tape_file(1, &[0, 0, 9, 0, 4]));
+    assert_eq!(printed, "verdict model moves 1 steps 2 words 5\n0 11\n");
+}
+
+#[test]
+fn other_endings_of_the_worked_example() {
+    let problem = worked_example().bytes();
+    let start = bytes_of(&[0; 5]);
+    let all = [0, 0, 9, 0, 4];
+    for length in 0..5 {
+        let printed = printed(&problem, &start, &tape_file(1, &all[..length]));
+        assert_eq!(printed, "verdict ended moves 0 steps 0 words 0\n0 0\n", "tape of {length}");
+    }
+    assert_eq!(
+        printed(&problem, &start, &tape_file(0, &all)),
+        "verdict spent moves 0 steps 0 words 0\n0 0\n"
+    );
+    assert_eq!(printed(&problem, &start, &[]), "verdict spent moves 0 steps 0 words 0\n0 0\n");
+    assert_eq!(printed(&problem, &bytes_of(&[0; 4]), &tape_file(1, &all)), "refused 14 at 0\n");
+    assert_eq!(printed(&problem, &bytes_of(&[16, 0, 0, 0, 0]), &tape_file(1, &all)), "refused 15 at 0\n");
+    assert_eq!(
+        printed(&problem, &bytes_of(&[3, 9, 9, 9, 9]), &[]),
+        "verdict model moves 0 steps 0 words 0\n0 3\n"
+    );
+    assert_eq!(printed(&[], &[], &[]), "refused 1 at 0\n");
+    assert_eq!(printed(b"TBV\x01\0\0\0\0\0", &[], &[]), "verdict model moves 0 steps 0 words 0\n");
+}
+
+/// The members of a set, by definition and by the pick at every proposal.
+fn members(spot: &Spot, set: Set, position: usize, target: u64) -> Vec<u64> {
+    let by_definition = definition::members(spot, set, position, target);
+    let width = spot.operator.widths[position];
+    let picked: std::collections::BTreeSet<u64> =
+        (0..1 << width).filter_map(|p| exact::pick(spot, set, position, target, p)).collect();
+    assert_eq!(by_definition, picked.into_iter().collect::<Vec<_>>());
+    by_definition
+}
+
+/// A spot of two operands of one width: x with its pair at position 0, s at position 1.
+fn spot(kind: Kind, operand: u32, x: Pair, s: u64) -> Spot {
+    let width = if matches!(kind, Kind::Eq | Kind::Below) { 1 } else { operand };
+    Spot {
+        operator: Operator { kind, width, widths: [operand, operand, 0], low: 0 },
+        pairs: [x, Pair::free(operand), Pair::default()],
+        values: [x.lo, s, 0],
+    }
+}
+
+#[test]
+fn numbers_to_test_by() {
+    let six = spot(Kind::Mul, 4, Pair::free(4), 6);
+    assert_eq!(members(&six, Set::Inverse, 0, 2), [3, 11]);
+    assert_eq!(exact::pick(&six, Set::Inverse, 0, 2, 4), Some(11));
+    assert_eq!(exact::pick(&six, Set::Inverse, 0, 2, 12), Some(3));
+
+    let top = Pair { lo: 2, hi: 3 };
+    assert_eq!(members(&spot(Kind::Mul, 2, top, 3), Set::Inverse, 0, 1), [3]);
+    assert_eq!(members(&spot(Kind::Mul, 2, top, 0), Set::Inverse, 0, 1), []);
+    assert_eq!(members(&spot(Kind::Mul, 2, top, 0), Set::Consistent, 0, 1), [3]);
+
+    let two = spot(Kind::Mul, 64, Pair::free(64), 2);
+    let picked = |p| exact::pick(&two, Set::Inverse, 0, 0, p);
+    assert_eq!(
+        [picked(0), picked(1), picked(1 << 63), picked((1 << 63) + 1)],
+        [Some(0), Some(1 << 63), Some(1 << 63), Some(0)]
+    );
+
+    assert_eq!(members(&spot(Kind::Add, 8, Pair::free(8), 200), Set::Inverse, 0, 44), [100]);
+    assert_eq!(members(&spot(Kind::And, 4, Pair::free(4), 14), Set::Inverse, 0, 1), []);
+    assert_eq!(members(&spot(Kind::And, 4, Pair::free(4), 14), Set::Inverse, 0, 2), [2, 3]);
+
+    let mut shifted = spot(Kind::Shl, 4, Pair::free(4), 0);
+    shifted.values[0] = 6;
+    assert_eq!(members(&shifted, Set::Inverse, 1, 0), (3..=15).collect::<Vec<_>>());
+    shifted.pairs[1] = Pair { lo: 0, hi: 3 };
+    assert_eq!(members(&shifted, Set::Inverse, 1, 0), [3]);
+
+    let right = spot(Kind::Lshr, 4, Pair::free(4), 0);
+    assert_eq!(members(&right, Set::Consistent, 0, 6), [6, 12, 13]);
+    assert_eq!(exact::pick(&right, Set::Consistent, 0, 6, 7), Some(12));
+
+    let mut below = spot(Kind::Below, 4, Pair::free(4), 8);
+    below.values[0] = 11;
+    below.pairs[1] = Pair { lo: 8, hi: 9 };
+    assert!(exact::essential(&below, 0, 1) && definition::essential(&below, 0, 1));
+    assert!(!exact::essential(&below, 1, 1) && !definition::essential(&below, 1, 1));
+
+    assert_eq!(members(&spot(Kind::Eq, 1, Pair::free(1), 1), Set::Inverse, 0, 0), [0]);
+    assert_eq!(members(&spot(Kind::Eq, 1, Pair::fixed(1), 1), Set::Inverse, 0, 0), []);
+
+    let sum = spot(Kind::Add, 4, Pair { lo: 0b0001, hi: 0b1101 }, 3);
+    assert_eq!(
+        pairs::result(&sum.operator, [sum.pairs[0], Pair::fixed(3), Pair::default()]),
+        Pair { lo: 0, hi: 0b1100 }
+    );
+}
+
+#[test]
+fn limits() {
+    let refusal = |problem: &Problem| read(&problem.bytes()).err();
+    let wide = |width| Problem { nodes: vec![variable(width, Pair { lo: 0, hi: 1 })], roots: vec![] };
+    assert_eq!(refusal(&wide(64)), None);
+    assert_eq!(refusal(&wide(65)), Some(Refusal { number: 8, place: 0 }));
+    let many = |count| Problem { nodes: vec![variable(1, Pair::free(1)); count], roots: vec![] };
+    assert_eq!(refusal(&many(1024)), None);
+    assert_eq!(refusal(&many(1025)), Some(Refusal { number: 4, place: 0 }));
+    let rooted = |count| Problem { nodes: vec![variable(1, Pair::free(1))], roots: vec![0; count] };
+    assert_eq!(refusal(&rooted(256)), None);
+    assert_eq!(refusal(&rooted(257)), Some(Refusal { number: 5, place: 0 }));
+    assert_eq!(many(1024).bytes().len() + 2 * 256, 24_585 + 512);
+}
+
+#[test]
+fn a_root_fixed_at_0_closes_the_run() {
+    let closed = Problem { nodes: vec![constant(1, 0)], roots: vec![0] };
+    let mut values = [7];
+    let answer = model::run(&closed.bytes(), &mut values, &[], 9);
+    assert_eq!((answer.outcome, values), (Outcome::Settled(Verdict::Closed), [0]));
+}
+
+#[test]
+fn a_blocked_move_counts_and_changes_nothing() {
+    // x · y = 1 with x even: no value of x is consistent, and no bit of the product is fixed.
+    let blocked = Problem {
+        nodes: vec![
+            variable(4, Pair { lo: 0, hi: 14 }),
+            variable(4, Pair::free(4)),
+            node(Kind::Mul, 4, [0, 1, 0]),
+            constant(4, 1),
+            node(Kind::Eq, 1, [2, 3, 0]),
+        ],
+        roots: vec![4],
+    };
+    let mut values = [2, 3, 9, 9, 9, 9];
+    let answer = model::run(&blocked.bytes(), &mut values, &[0, 0, 1, 0, 0, 0, 1], 1);
+    assert_eq!(
+        answer,
+        model::Answer { moves: 1, steps: 2, words: 5, outcome: Outcome::Settled(Verdict::Spent) }
+    );
+    assert_eq!(values, [2, 3, 6, 1, 0, 9]);
+}

@@ -1,0 +1,289 @@
+//! Inverse and consistent picks and the essential test of a single node, in word operations.
+
+use crate::kind::*;
+use crate::member::Part;
+use crate::{low_bits, mask};
+
+/// A node taken out of its problem: its operator, and each operand's width, pair and current value.
+#[derive(Clone, Copy, Debug, Default)]
+pub struct Spot {
+    pub kind: u8,
+    pub width: u32,
+    pub low: u32,
+    pub widths: [u32; 3],
+    pub lo: [u64; 3],
+    pub hi: [u64; 3],
+    pub now: [u64; 3],
+}
+
+impl Spot {
+    #[inline]
+    fn part(&self, position: usize) -> Part {
+        Part::new(self.lo[position], self.hi[position])
+    }
+}
+
+/// The pick from the inverse set. The proposal is below 2 to the operand's width.
+#[inline]
+pub fn pick_inverse(spot: &Spot, position: usize, t: u64, p: u64) -> Option<u64> {
+    let x = spot.part(position);
+    let w = spot.width;
+    let [a, b, c] = spot.now;
+    let other = if position == 0 { b } else { a };
+    match (spot.kind, position) {
+        (NOT, _) => x.only(!t & mask(w)),
+        (AND, _) => pick_conjunct(x, other, t, p),
+        (XOR, _) => x.only(t ^ other),
+        (ADD, _) => x.only(t.wrapping_sub(other) & mask(w)),
+        (MUL, _) => pick_factor(x, w, other, t, p),
+        (SHL, 0) => pick_shifted_left(x, w, b, t, p),
+        (SHL, _) => pick_left_amount(x, w, a, t, p),
+        (LSHR, 0) => pick_shifted_right(x, w, b, t, p),
+        (LSHR, _) => pick_right_amount(x, a, t, p),
+        (EQ, _) => pick_equal(x, other, t, p),
+        (BELOW, 0) => pick_below(x, b, t, p),
+        (BELOW, _) => pick_above(x, a, t, p),
+        (IF, 0) => pick_condition(x, b == t, c == t, p),
+        (IF, 1) => pick_branch(x, a == 1, c, t, p),
+        (IF, _) => pick_branch(x, a == 0, b, t, p),
+        (CONCAT, 0) => pick_half(x, t >> spot.widths[1], b == t & mask(spot.widths[1])),
+        (CONCAT, _) => pick_half(x, t & mask(spot.widths[1]), a == t >> spot.widths[1]),
+        _ => x.with(mask(w) << spot.low, t << spot.low).pick(p),
+    }
+}
+
+/// The pick from the consistent set. The proposal is below 2 to the operand's width.
+#[inline]
+pub fn pick_consistent(spot: &Spot, position: usize, t: u64, p: u64) -> Option<u64> {
+    let x = spot.part(position);
+    let w = spot.width;
+    match (spot.kind, position) {
+        (AND, _) => x.with(t, t).pick(p),
+        (XOR | ADD | EQ | IF, _) => x.pick(p),
+        (MUL | SHL | LSHR, _) if t == 0 => x.pick(p),
+        (MUL, _) => pick_divisor(x, t, p),
+        (SHL, 0) => {
+            let parts = (0..=t.trailing_zeros()).map(|by| x.with(mask(w - by), t >> by));
+            pick_of_all(parts, p)
+        }
+        (LSHR, 0) => {
+            let spare = t.leading_zeros() - (64 - w);
+            let parts = (0..=spare).map(|by| x.with(!low_bits(by), t << by));
+            pick_of_all(parts, p)
+        }
+        (SHL, _) => x.up_to(u64::from(t.trailing_zeros())).pick(p),
+        (LSHR, _) => x.up_to(u64::from(t.leading_zeros() - (64 - w))).pick(p),
+        (BELOW, 0) if t == 1 => x.up_to(mask(spot.widths[0]) - 1).pick(p),
+        (BELOW, _) if t == 1 => x.from(1).pick(p),
+        (BELOW, _) => x.pick(p),
+        (CONCAT, 0) => x.only(t >> spot.widths[1]),
+        (CONCAT, _) => x.only(t & mask(spot.widths[1])),
+        _ => pick_inverse(spot, position, t, p),
+    }
+}
+
+/// Whether no agreeing values of the others give the target while this one keeps its value.
+#[inline]
+pub fn essential(spot: &Spot, position: usize, t: u64) -> bool {
+    let mine = spot.now[position];
+    let agrees = |at: usize, v: u64| spot.part(at).agrees(v);
+    let reached = match (spot.kind, position) {
+        (NOT, _) => !mine & mask(spot.width) == t,
+        (EXTRACT, _) => mine >> spot.low & mask(spot.width) == t,
+        (IF, 0) => agrees(2 - mine as usize, t),
+        (IF, 1) => spot.hi[0] == 1 && mine == t || spot.lo[0] == 0 && agrees(2, t),
+        (IF, _) => spot.lo[0] == 0 && mine == t || spot.hi[0] == 1 && agrees(1, t),
+        _ => pick_inverse(spot, 1 - position, t, 0).is_some(),
+    };
+    !reached
+}
+
+/// x · s = t: the zeros at the end of s go out of both, and the odd rest of s has an inverse.
+#[inline]
+fn pick_factor(x: Part, w: u32, s: u64, t: u64, p: u64) -> Option<u64> {
+    if s == 0 {
+        return x.pick_if(t == 0, p);
+    }
+    let zeros = s.trailing_zeros();
+    if t & low_bits(zeros) != 0 {
+        return None;
+    }
+    let quotient = (t >> zeros).wrapping_mul(odd_inverse(s >> zeros));
+    x.with(mask(w - zeros), quotient).pick(p)
+}
+
+/// The inverse of an odd word modulo 2^64: each round doubles the number of right bits, from five.
+#[inline]
+fn odd_inverse(odd: u64) -> u64 {
+    let mut inverse = odd.wrapping_mul(3) ^ 2;
+    for _ in 0..4 {
+        inverse = inverse.wrapping_mul(2u64.wrapping_sub(odd.wrapping_mul(inverse)));
+    }
+    inverse
+}
+
+/// x & s = t: the bits of s are given.
+#[inline]
+fn pick_conjunct(x: Part, s: u64, t: u64, p: u64) -> Option<u64> {
+    if t & !s != 0 {
+        return None;
+    }
+    x.with(s, t).pick(p)
+}
+
+/// x shl by = t: the low bits of x are given, unless all are shifted out.
+#[inline]
+fn pick_shifted_left(x: Part, w: u32, by: u64, t: u64, p: u64) -> Option<u64> {
+    if by >= u64::from(w) {
+        return x.pick_if(t == 0, p);
+    }
+    let by = by as u32;
+    if t & low_bits(by) != 0 {
+        return None;
+    }
+    x.with(mask(w - by), t >> by).pick(p)
+}
+
+/// x lshr by = t: the high bits of x are given, unless all are shifted out.
+#[inline]
+fn pick_shifted_right(x: Part, w: u32, by: u64, t: u64, p: u64) -> Option<u64> {
+    if by >= u64::from(w) {
+        return x.pick_if(t == 0, p);
+    }
+    let by = by as u32;
+    if t & !mask(w - by) != 0 {
+        return None;
+    }
+    x.with(!low_bits(by), t << by).pick(p)
+}
+
+/// a shl x = t: for t other than 0 the amount that brings a's lowest bit to t's.
+#[inline]
+fn pick_left_amount(x: Part, w: u32, a: u64, t: u64, p: u64) -> Option<u64> {
+    if a == 0 {
+        return x.pick_if(t == 0, p);
+    }
+    if t == 0 {
+        return x.from(u64::from(w - a.trailing_zeros())).pick(p);
+    }
+    let by = t.trailing_zeros().checked_sub(a.trailing_zeros())?;
+    if a << by & mask(w) != t {
+        return None;
+    }
+    x.only(u64::from(by))
+}
+
+/// a lshr x = t: for t other than 0 the amount that brings a's highest bit to t's.
+#[inline]
+fn pick_right_amount(x: Part, a: u64, t: u64, p: u64) -> Option<u64> {
+    if a == 0 {
+        return x.pick_if(t == 0, p);
+    }
+    if t == 0 {
+        return x.from(u64::from(64 - a.leading_zeros())).pick(p);
+    }
+    let by = t.leading_zeros().checked_sub(a.leading_zeros())?;
+    if a >> by != t {
+        return None;
+    }
+    x.only(u64::from(by))
+}
+
+/// (x eq s) = t.
+#[inline]
+fn pick_equal(x: Part, s: u64, t: u64, p: u64) -> Option<u64> {
+    if t == 1 {
+        x.only(s)
+    } else {
+        pick_except(x, s, p)
+    }
+}
+
+/// (x below s) = t.
+#[inline]
+fn pick_below(x: Part, s: u64, t: u64, p: u64) -> Option<u64> {
+    if t == 1 {
+        x.up_to(s.checked_sub(1)?).pick(p)
+    } else {
+        x.from(s).pick(p)
+    }
+}
+
+/// (s below x) = t.
+#[inline]
+fn pick_above(x: Part, s: u64, t: u64, p: u64) -> Option<u64> {
+    if t == 1 {
+        x.from(s.checked_add(1)?).pick(p)
+    } else {
+        x.up_to(s).pick(p)
+    }
+}
+
+/// A condition, where the target is the value of the first branch, of the second, or of both.
+#[inline]
+fn pick_condition(x: Part, first: bool, second: bool, p: u64) -> Option<u64> {
+    match (first, second) {
+        (true, true) => x.pick(p),
+        (true, false) => x.only(1),
+        (false, true) => x.only(0),
+        (false, false) => None,
+    }
+}
+
+/// A branch, which is taken or not, beside the other one's value.
+#[inline]
+fn pick_branch(x: Part, taken: bool, other: u64, t: u64, p: u64) -> Option<u64> {
+    if taken {
+        x.only(t)
+    } else {
+        x.pick_if(other == t, p)
+    }
+}
+
+/// A half of a concatenation, where the other half is right or not.
+#[inline]
+fn pick_half(x: Part, half: u64, other_is_right: bool) -> Option<u64> {
+    if other_is_right {
+        x.only(half)
+    } else {
+        None
+    }
+}
+
+/// Any member but `s`.
+#[inline]
+fn pick_except(x: Part, s: u64, p: u64) -> Option<u64> {
+    let next = |from: u64| match x.next(from) {
+        Some(v) if v == s => s.checked_add(1).and_then(|after| x.next(after)),
+        found => found,
+    };
+    next(p).or_else(|| next(0))
+}
+
+/// Members with no more zeros at the end than t, which is not 0: some bit up to t's lowest is set.
+#[inline]
+fn pick_divisor(x: Part, t: u64, p: u64) -> Option<u64> {
+    let ends = t ^ t.wrapping_sub(1);
+    let settable = x.hi & ends;
+    if settable == 0 {
+        return None;
+    }
+    let lowest = settable & settable.wrapping_neg();
+    let v = x.next(p).or_else(|| x.next(0))?;
+    Some(if v & ends == 0 { v | lowest } else { v })
+}
+
+/// The pick from the union of parts.
+#[inline]
+fn pick_of_all(parts: impl Iterator<Item = Part>, p: u64) -> Option<u64> {
+    let (mut above, mut least) = (None, None);
+    let lower = |best: Option<u64>, found: Option<u64>| match (best, found) {
+        (Some(best), Some(found)) => Some(best.min(found)),
+        _ => best.or(found),
+    };
+    for part in parts {
+        above = lower(above, part.next(p));
+        least = lower(least, part.next(0));
+    }
+    above.or(least)
+}

@@ -1,0 +1,151 @@
+//! The run.
+
+use crate::kind::*;
+use crate::layout::{check, field, hi, kind, lo, operands, root, width, Node, Problem, Refusal, MOST_NODES};
+use crate::mask;
+use crate::picking::{essential, pick_consistent, pick_inverse, Spot};
+use crate::values::{evaluate, fill, Pairs};
+
+#[derive(Clone, Copy, Debug, PartialEq, Eq)]
+pub enum Verdict {
+    Model,
+    Spent,
+    Ended,
+    Closed,
+}
+
+#[derive(Clone, Copy, Debug, PartialEq, Eq)]
+pub enum Outcome {
+    Refused(Refusal),
+    Settled(Verdict),
+}
+
+#[derive(Clone, Copy, Debug, PartialEq, Eq)]
+pub struct Answer {
+    pub moves: u64,
+    pub steps: u64,
+    pub words: u64,
+    pub outcome: Outcome,
+}
+
+/// A whole run.
+pub fn run(bytes: &[u8], values: &mut [u64], tape: &[u64], budget: u16) -> Answer {
+    let refused = |refusal| Answer { moves: 0, steps: 0, words: 0, outcome: Outcome::Refused(refusal) };
+    let problem = match check(bytes) {
+        Ok(problem) => problem,
+        Err(refusal) => return refused(refusal),
+    };
+    let Some(values) = values.get_mut(..problem.nodes.len()) else {
+        return refused(Refusal { number: 14, place: 0 });
+    };
+    let misfit =
+        |(node, &v): (&Node, &u64)| kind(node) == VARIABLE && (lo(node) & !v != 0 || v & !hi(node) != 0);
+    if let Some(place) = problem.nodes.iter().zip(values.iter()).position(misfit) {
+        return refused(Refusal { number: 15, place });
+    }
+    evaluate(problem.nodes, values);
+    let mut pairs = Pairs { lo: [0; MOST_NODES], hi: [0; MOST_NODES] };
+    fill(problem.nodes, &mut pairs);
+    settle(problem, &pairs, values, tape, budget)
+}
+
+/// The run of an accepted problem, its values evaluated and its pairs filled in.
+fn settle(problem: Problem, pairs: &Pairs, values: &mut [u64], tape: &[u64], budget: u16) -> Answer {
+    let (mut moves, mut steps, mut read) = (0, 0, 0);
+    let verdict = if problem.roots.iter().any(|entry| pairs.hi[root(entry)] == 0) {
+        Verdict::Closed
+    } else {
+        loop {
+            let open = problem.roots.iter().filter(|entry| values[root(entry)] != 1).count();
+            if open == 0 {
+                break Verdict::Model;
+            }
+            if moves == u64::from(budget) {
+                break Verdict::Spent;
+            }
+            let Some(done) = make_move(problem, pairs, values, open, &tape[read..]) else {
+                break Verdict::Ended;
+            };
+            if let Some((variable, value)) = done.change {
+                values[variable] = value;
+                evaluate(problem.nodes, values);
+            }
+            moves += 1;
+            steps += done.steps;
+            read += 1 + 2 * done.steps as usize;
+        }
+    };
+    Answer { moves, steps, words: read as u64, outcome: Outcome::Settled(verdict) }
+}
+
+/// A finished move: its steps, and the variable and value that it ends with, unless blocked.
+struct Move {
+    steps: u64,
+    change: Option<(usize, u64)>,
+}
+
+fn make_move(problem: Problem, pairs: &Pairs, values: &[u64], open: usize, tape: &[u64]) -> Option<Move> {
+    let (&word, mut tape) = tape.split_first()?;
+    let chosen = (word % open as u64) as usize;
+    let mut unsatisfied = problem.roots.iter().map(root).filter(|&id| values[id] != 1);
+    let mut id = unsatisfied.nth(chosen).expect("fewer than the unsatisfied");
+    let mut target = 1;
+    let mut steps = 0;
+    while kind(&problem.nodes[id]) != VARIABLE {
+        let (&[e, p], rest) = tape.split_first_chunk()?;
+        tape = rest;
+        steps += 1;
+        let Some((operand, value)) = step(problem.nodes, pairs, values, id, target, e, p) else {
+            return Some(Move { steps, change: None });
+        };
+        (id, target) = (operand, value);
+    }
+    Some(Move { steps, change: Some((id, target)) })
+}
+
+/// The operand followed and the value picked for it, unless the move is blocked.
+fn step(
+    nodes: &[Node],
+    pairs: &Pairs,
+    values: &[u64],
+    id: usize,
+    target: u64,
+    e: u64,
+    p: u64,
+) -> Option<(usize, u64)> {
+    let node = &nodes[id];
+    let spot = spot(nodes, pairs, values, node);
+    let count = operands(spot.kind);
+    let (mut essentials, mut open) = (0u8, 0u8);
+    for position in 0..count {
+        essentials |= u8::from(essential(&spot, position, target)) << position;
+        open |= u8::from(spot.lo[position] != spot.hi[position]) << position;
+    }
+    let candidates = if essentials != 0 { essentials & open } else { open };
+    if candidates == 0 {
+        return None;
+    }
+    let chosen = (e / 2 % u64::from(candidates.count_ones())) as usize;
+    let position = (0..count).filter(|position| candidates >> position & 1 == 1).nth(chosen)?;
+    let p = p & mask(spot.widths[position]);
+    let inverse = if e & 1 == 0 { pick_inverse(&spot, position, target, p) } else { None };
+    let value = inverse.or_else(|| pick_consistent(&spot, position, target, p))?;
+    Some((field(node, position), value))
+}
+
+/// A node taken out of its problem.
+fn spot(nodes: &[Node], pairs: &Pairs, values: &[u64], node: &Node) -> Spot {
+    let kind = kind(node);
+    let mut spot = Spot { kind, width: width(node), ..Spot::default() };
+    if kind == EXTRACT {
+        spot.low = field(node, 1) as u32;
+    }
+    for position in 0..operands(kind) {
+        let operand = field(node, position);
+        spot.widths[position] = width(&nodes[operand]);
+        spot.lo[position] = pairs.lo[operand];
+        spot.hi[position] = pairs.hi[operand];
+        spot.now[position] = values[operand];
+    }
+    spot
+}

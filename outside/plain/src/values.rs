@@ -1,0 +1,112 @@
+//! Evaluation and fixed bits of all nodes, upward in one pass each.
+
+use crate::kind::*;
+use crate::layout::{field, hi, kind, lo, width, Node, MOST_NODES};
+use crate::{low_bits, mask};
+
+/// Sets every node's value from the variables'. The values have one place for each node.
+pub fn evaluate(nodes: &[Node], values: &mut [u64]) {
+    for (id, node) in nodes.iter().enumerate() {
+        let at = |position: usize| values[field(node, position)];
+        let w = width(node);
+        let value = match kind(node) {
+            VARIABLE => continue,
+            CONSTANT => lo(node),
+            NOT => !at(0) & mask(w),
+            AND => at(0) & at(1),
+            XOR => at(0) ^ at(1),
+            ADD => at(0).wrapping_add(at(1)) & mask(w),
+            MUL => at(0).wrapping_mul(at(1)) & mask(w),
+            SHL => shl(at(0), at(1), w),
+            LSHR => lshr(at(0), at(1), w),
+            EQ => u64::from(at(0) == at(1)),
+            BELOW => u64::from(at(0) < at(1)),
+            IF if at(0) == 1 => at(1),
+            IF => at(2),
+            CONCAT => at(0) << width(&nodes[field(node, 1)]) | at(1),
+            _ => at(0) >> field(node, 1) & mask(w),
+        };
+        values[id] = value;
+    }
+}
+
+#[inline]
+fn shl(v: u64, by: u64, w: u32) -> u64 {
+    if by >= u64::from(w) {
+        0
+    } else {
+        v << by & mask(w)
+    }
+}
+
+#[inline]
+fn lshr(v: u64, by: u64, w: u32) -> u64 {
+    if by >= u64::from(w) {
+        0
+    } else {
+        v >> by
+    }
+}
+
+/// The pairs of all nodes.
+#[derive(Clone, Debug)]
+pub struct Pairs {
+    pub lo: [u64; MOST_NODES],
+    pub hi: [u64; MOST_NODES],
+}
+
+/// Fills in every node's pair.
+pub fn fill(nodes: &[Node], pairs: &mut Pairs) {
+    for (id, node) in nodes.iter().enumerate() {
+        let (lo, hi) = pair(nodes, node, pairs);
+        pairs.lo[id] = lo;
+        pairs.hi[id] = hi;
+    }
+}
+
+fn pair(nodes: &[Node], node: &Node, pairs: &Pairs) -> (u64, u64) {
+    let w = width(node);
+    let all = mask(w);
+    let lo_of = |position: usize| pairs.lo[field(node, position)];
+    let hi_of = |position: usize| pairs.hi[field(node, position)];
+    let one_bit = |is_one: bool, is_zero: bool| (u64::from(is_one), u64::from(!is_zero));
+    match kind(node) {
+        VARIABLE | CONSTANT => (lo(node), hi(node)),
+        NOT => (!hi_of(0) & all, !lo_of(0) & all),
+        AND => (lo_of(0) & lo_of(1), hi_of(0) & hi_of(1)),
+        XOR => {
+            let open = lo_of(0) ^ hi_of(0) | lo_of(1) ^ hi_of(1);
+            let value = lo_of(0) ^ lo_of(1);
+            (value & !open, value | open)
+        }
+        ADD | MUL => {
+            let open = lo_of(0) ^ hi_of(0) | lo_of(1) ^ hi_of(1);
+            let fixed = low_bits(open.trailing_zeros()) & all;
+            let value = if kind(node) == ADD {
+                lo_of(0).wrapping_add(lo_of(1))
+            } else {
+                lo_of(0).wrapping_mul(lo_of(1))
+            };
+            (value & fixed, value & fixed | all & !fixed)
+        }
+        SHL | LSHR if lo_of(1) != hi_of(1) => (0, all),
+        SHL => (shl(lo_of(0), lo_of(1), w), shl(hi_of(0), lo_of(1), w)),
+        LSHR => (lshr(lo_of(0), lo_of(1), w), lshr(hi_of(0), lo_of(1), w)),
+        EQ => {
+            let open = lo_of(0) ^ hi_of(0) | lo_of(1) ^ hi_of(1);
+            let apart = (lo_of(0) ^ lo_of(1)) & !open != 0;
+            one_bit(open == 0 && !apart, apart)
+        }
+        BELOW => one_bit(hi_of(0) < lo_of(1), lo_of(0) >= hi_of(1)),
+        IF => match (lo_of(0), hi_of(0)) {
+            (1, _) => (lo_of(1), hi_of(1)),
+            (_, 0) => (lo_of(2), hi_of(2)),
+            _ => (lo_of(1) & lo_of(2), hi_of(1) | hi_of(2)),
+        },
+        CONCAT => {
+            let by = width(&nodes[field(node, 1)]);
+            (lo_of(0) << by | lo_of(1), hi_of(0) << by | hi_of(1))
+        }
+        _ => (lo_of(0) >> field(node, 1) & all, hi_of(0) >> field(node, 1) & all),
+    }
+}

@@ -1,0 +1,26 @@
+//! Holds the proved library against z3.
+//!
+//! | module      | what is compared                                                           |
+//! |-------------|----------------------------------------------------------------------------|
+//! | `solver`    | one run of z3 over a text, and its answers                                 |
+//! | `terms`     | every node's value in a run of budget 0, with z3's value of the same term  |
+//! | `models`    | models that the search finds: z3 must call them solutions                  |
+//! | `unsolved`  | problems that z3 calls unsatisfiable: no run may bring *model*; and closed  |
+//! |             | ones, which z3 must call unsatisfiable                                     |
+//!
+//! A difference is an `Err` with a text that shows it.
+
+pub mod models;
+pub mod solver;
+pub mod terms;
+pub mod unsolved;
+
+use walumpeh::{Answer, Outcome, Verdict};
+
+/// The verdict of a run that must not be refused.
+fn verdict(answer: Answer) -> Result<Verdict, String> {
+    match answer.outcome {
+        Outcome::Settled(verdict) => Ok(verdict),
+        Outcome::Refused(refusal) => Err(format!("refused {} at {}", refusal.number, refusal.place)),
+    }
+}

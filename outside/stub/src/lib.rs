@@ -1,0 +1,69 @@
+//! The model under the names of the proved library's calls: linked in the archive's place, it lets
+//! everything here be built and tried without the proved library.
+//!
+//! Each slice comes as a pointer and a length, and the callers here make both from Rust slices.
+
+use model::calls;
+use std::slice::{from_raw_parts, from_raw_parts_mut};
+
+/// # Safety
+/// The pointer and length are those of a slice.
+#[no_mangle]
+pub unsafe extern "C" fn wal_check(problem: *const u8, problem_len: usize) -> u32 {
+    calls::check(from_raw_parts(problem, problem_len))
+}
+
+/// # Safety
+/// Each pointer and length are those of a slice; no two that are written overlap.
+#[no_mangle]
+pub unsafe extern "C" fn wal_run(
+    problem: *const u8,
+    problem_len: usize,
+    values: *mut u64,
+    values_len: usize,
+    tape: *const u64,
+    tape_len: usize,
+    budget: u16,
+    out: *mut u64,
+    out_len: usize,
+) -> u32 {
+    let problem = from_raw_parts(problem, problem_len);
+    let values = from_raw_parts_mut(values, values_len);
+    let tape = from_raw_parts(tape, tape_len);
+    calls::run(problem, values, tape, budget, from_raw_parts_mut(out, out_len))
+}
+
+/// # Safety
+/// Each pointer and length are those of a slice.
+#[no_mangle]
+pub unsafe extern "C" fn wal_pick(
+    kind: u8,
+    width: u32,
+    low: u32,
+    spot: *const u64,
+    spot_len: usize,
+    position: u32,
+    target: u64,
+    proposal: u64,
+    which: u8,
+    out: *mut u64,
+    out_len: usize,
+) -> u8 {
+    let spot = from_raw_parts(spot, spot_len);
+    calls::pick(kind, width, low, spot, position, target, proposal, which, from_raw_parts_mut(out, out_len))
+}
+
+/// # Safety
+/// The pointer and length are those of a slice.
+#[no_mangle]
+pub unsafe extern "C" fn wal_essential(
+    kind: u8,
+    width: u32,
+    low: u32,
+    spot: *const u64,
+    spot_len: usize,
+    position: u32,
+    target: u64,
+) -> u8 {
+    calls::essential(kind, width, low, from_raw_parts(spot, spot_len), position, target)
+}

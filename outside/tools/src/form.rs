@@ -1,0 +1,214 @@
+//! A problem from text, one line a node:
+//!
+//! ```text
+//! x   = var 4            # 4 bits, all free
+//! y   = var 4 10**       # the top two bits fixed at 1 and 0
+//! six = const 4 6        # also 0x6, 0b0110
+//! p   = mul x six        # the width follows from the operands
+//! q   = extract p 1 2    # from bit 1, two bits
+//! ok  = eq p y
+//! root ok
+//! ```
+//!
+//! Names are any words; nodes have their ids in the order of the lines. What follows `#` is a remark.
+
+use generate::Builder;
+use model::problem::{read, MOST_NODES, MOST_ROOTS};
+use model::{ones, Kind, Pair, Problem};
+use std::collections::HashMap;
+
+/// The problem that a text describes, or the line and what is wrong with it.
+pub fn parse(text: &str) -> Result<Problem, String> {
+    let mut draft = Draft { builder: Builder::new(), ids: HashMap::new() };
+    for (index, line) in text.lines().enumerate() {
+        let words: Vec<&str> = line.split('#').next().unwrap_or("").split_whitespace().collect();
+        draft.line(&words).map_err(|fault| format!("line {}: {fault}", index + 1))?;
+    }
+    Ok(draft.builder.problem)
+}
+
+struct Draft {
+    builder: Builder,
+    ids: HashMap<String, u16>,
+}
+
+impl Draft {
+    fn line(&mut self, words: &[&str]) -> Result<(), String> {
+        match words {
+            [] => Ok(()),
+            [name, "=", kind, rest @ ..] => {
+                let id = self.node(kind, rest)?;
+                match self.ids.insert(name.to_string(), id) {
+                    Some(_) => Err(format!("there is a node '{name}' already")),
+                    None => Ok(()),
+                }
+            }
+            ["root", names @ ..] => names.iter().try_for_each(|name| self.root(name)),
+            _ => Err("neither 'NAME = KIND ..' nor 'root NAME'".into()),
+        }
+    }
+
+    fn root(&mut self, name: &str) -> Result<(), String> {
+        let id = self.id(name)?;
+        match self.builder.width(id) {
+            1 if self.builder.problem.roots.len() == MOST_ROOTS => {
+                Err(format!("more than {MOST_ROOTS} roots"))
+            }
+            1 => {
+                self.builder.root(id);
+                Ok(())
+            }
+            width => Err(format!("root '{name}' has {width} bits, not 1")),
+        }
+    }
+
+    fn node(&mut self, kind: &str, rest: &[&str]) -> Result<u16, String> {
+        if self.builder.len() == MOST_NODES {
+            return Err(format!("more than {MOST_NODES} nodes"));
+        }
+        let kind = Kind::ALL.into_iter().find(|k| k.name() == kind).ok_or(format!("no kind '{kind}'"))?;
+        let id = match (kind, rest) {
+            (Kind::Variable, [bits]) => {
+                let width = width(bits)?;
+                self.builder.variable(width, Pair::free(width))
+            }
+            (Kind::Variable, [bits, digits]) => {
+                let width = width(bits)?;
+                self.builder.variable(width, ternary(digits, width)?)
+            }
+            (Kind::Constant, [bits, value]) => {
+                let width = width(bits)?;
+                let value = number(value)?;
+                if value > ones(width) {
+                    return Err(format!("{value} has more than {width} bits"));
+                }
+                self.builder.constant(width, value)
+            }
+            (Kind::Extract, [from, low, bits]) => {
+                let (from, width) = (self.id(from)?, width(bits)?);
+                let low = u32::try_from(number(low)?).unwrap_or(u32::MAX);
+                if low.saturating_add(width) > self.builder.width(from) {
+                    return Err(format!(
+                        "{width} bits from bit {low} are not in a node of {} bits",
+                        self.builder.width(from)
+                    ));
+                }
+                self.builder.extract(from, low, width)
+            }
+            (_, names) if names.len() == kind.operands() && !names.is_empty() => {
+                let operands = names.iter().map(|name| self.id(name)).collect::<Result<Vec<_>, _>>()?;
+                self.builder.node(kind, &operands)
+            }
+            _ => return Err(format!("expected: {}", usage(kind))),
+        };
+        self.fits(id)
+    }
+
+    /// The node just added, if its widths fit.
+    fn fits(&self, id: u16) -> Result<u16, String> {
+        let operator = self.builder.problem.operator(id as usize);
+        if operator.widths_fit() && operator.width <= 64 {
+            return Ok(id);
+        }
+        let widths: Vec<String> =
+            operator.widths[..operator.kind.operands()].iter().map(u32::to_string).collect();
+        Err(format!("{} does not take operands of {} bits", operator.kind.name(), widths.join(", ")))
+    }
+
+    fn id(&self, name: &str) -> Result<u16, String> {
+        self.ids.get(name).copied().ok_or(format!("no node '{name}' above"))
+    }
+}
+
+fn usage(kind: Kind) -> String {
+    match kind {
+        Kind::Variable => "var WIDTH, or var WIDTH DIGITS with 0, 1 or * for each bit".into(),
+        Kind::Constant => "const WIDTH VALUE".into(),
+        Kind::Extract => "extract NODE LOWEST-BIT WIDTH".into(),
+        _ => format!("{}{}", kind.name(), [" A", " A B", " A B C"][kind.operands() - 1]),
+    }
+}
+
+fn width(word: &str) -> Result<u32, String> {
+    word.parse()
+        .ok()
+        .filter(|width| (1..=64).contains(width))
+        .ok_or(format!("'{word}' is not a width of 1 to 64"))
+}
+
+/// A number: decimal, 0x.. or 0b.., with _ anywhere between its digits.
+fn number(word: &str) -> Result<u64, String> {
+    let digits = word.replace('_', "");
+    let parsed = match (digits.strip_prefix("0x"), digits.strip_prefix("0b")) {
+        (Some(hex), _) => u64::from_str_radix(hex, 16),
+        (_, Some(binary)) => u64::from_str_radix(binary, 2),
+        _ => digits.parse(),
+    };
+    parsed.map_err(|_| format!("'{word}' is not a number of 64 bits"))
+}
+
+/// A ternary word, its highest bit first: 0 and 1 are fixed, * is free.
+fn ternary(digits: &str, width: u32) -> Result<Pair, String> {
+    let digits = digits.replace('_', "");
+    if digits.chars().count() != width as usize {
+        return Err(format!("'{digits}' has not {width} digits"));
+    }
+    digits.chars().try_fold(Pair::default(), |pair, digit| {
+        let (lo, hi) = match digit {
+            '0' => (0, 0),
+            '1' => (1, 1),
+            '*' => (0, 1),
+            other => return Err(format!("'{other}' is none of 0, 1 and *")),
+        };
+        Ok(Pair { lo: pair.lo << 1 | lo, hi: pair.hi << 1 | hi })
+    })
+}
+
+/// A problem's bytes from text, accepted.
+pub fn bytes(text: &str) -> Result<Vec<u8>, String> {
+    let bytes = parse(text)?.bytes();
+    match read(&bytes) {
+        Ok(_) => Ok(bytes),
+        Err(refusal) => Err(format!(
+            "refused {} at {}: {}",
+            refusal.number,
+            refusal.place,
+            crate::text::reason(refusal.number)
+        )),
+    }
+}
+
+#[cfg(test)]
+mod tests {
+    use super::*;
+
+    #[test]
+    fn the_worked_example() {
+        let text = "x = var 4\nsix = const 4 0b01_10 # six\np = mul x six\n\ntwo = const 4 2\nok = eq p two\nroot ok\n";
+        assert_eq!(parse(text), Ok(crate::worked_example()));
+    }
+
+    #[test]
+    fn faults_name_their_line() {
+        let faults = [
+            ("x = var 0", "line 1: '0' is not a width of 1 to 64"),
+            ("x = var 65", "line 1: '65' is not a width of 1 to 64"),
+            ("x = var 2 01*", "line 1: '01*' has not 2 digits"),
+            ("x = var 2 0a", "line 1: 'a' is none of 0, 1 and *"),
+            ("x = const 2 4", "line 1: 4 has more than 2 bits"),
+            ("x = const 2 four", "line 1: 'four' is not a number of 64 bits"),
+            ("x = var 2\nx = var 2", "line 2: there is a node 'x' already"),
+            ("x = not y", "line 1: no node 'y' above"),
+            ("x = var 2\ny = add x", "line 2: expected: add A B"),
+            ("x = var 2\ny = var 3\nz = add x y", "line 3: add does not take operands of 2, 3 bits"),
+            ("x = var 40\nz = concat x x", "line 2: concat does not take operands of 40, 40 bits"),
+            ("x = var 4\ny = extract x 3 2", "line 2: 2 bits from bit 3 are not in a node of 4 bits"),
+            ("x = var 4\nroot x", "line 2: root 'x' has 4 bits, not 1"),
+            ("x = nand y y", "line 1: no kind 'nand'"),
+            ("x var 4", "line 1: neither 'NAME = KIND ..' nor 'root NAME'"),
+        ];
+        for (text, fault) in faults {
+            assert_eq!(parse(text).unwrap_err(), fault, "{text}");
+        }
+    }
+}

@@ -1,0 +1,218 @@
+//! A problem's bytes as text, in the form that `form` reads, with widths and derived pairs as remarks.
+//! A refused problem is shown as far as its bytes go, with the refused place marked.
+
+use model::problem::{read, Problem, Refusal, HEADER, NODE};
+use model::{ones, pairs, Kind, Pair};
+use std::fmt::Write;
+
+/// The text of a problem's bytes, and the refusal if it is refused.
+pub fn text(bytes: &[u8]) -> (String, Option<Refusal>) {
+    match read(bytes) {
+        Ok(problem) => (accepted(&problem), None),
+        Err(refusal) => (refused(bytes, refusal), Some(refusal)),
+    }
+}
+
+/// What a refusal's number means.
+pub fn reason(number: u8) -> &'static str {
+    match number {
+        1 => "fewer than 9 bytes",
+        2 => "the mark is not TBV",
+        3 => "the version is not 1",
+        4 => "more than 1,024 nodes",
+        5 => "more than 256 roots",
+        6 => "the length is not 9 + 24 for each node + 2 for each root",
+        7 => "the kind is over 13",
+        8 => "the width is 0 or over 64",
+        9 => "an operand's id is not below the node's own",
+        10 => "a field that the kind does not use is not zero",
+        11 => "the widths do not fit",
+        12 => "lo, hi are not a ternary word of the width, or a constant's lo and hi differ",
+        13 => "the root is no node, or one of more than 1 bit",
+        14 => "fewer places than nodes",
+        15 => "a variable's start does not agree with its pair",
+        _ => "no such refusal",
+    }
+}
+
+/// A ternary word's digits, the highest bit first.
+pub fn digits(pair: Pair, width: u32) -> String {
+    let digit = |i: u32| match (pair.lo >> i & 1, pair.hi >> i & 1) {
+        (0, 0) => '0',
+        (1, _) => '1',
+        _ => '*',
+    };
+    (0..width).rev().map(digit).collect()
+}
+
+fn accepted(problem: &Problem) -> String {
+    let (nodes, roots) = (problem.nodes.len(), problem.roots.len());
+    let mut text = format!(
+        "# {}, {}, longest chain under a root {}\n",
+        count(nodes, "node"),
+        count(roots, "root"),
+        problem.height()
+    );
+    for (id, (node, pair)) in problem.nodes.iter().zip(pairs::pairs(problem)).enumerate() {
+        let raw =
+            Raw { kind: node.kind.number(), width: node.width as u8, fields: node.fields, pair: node.pair };
+        let remark = format!("{} {}", count(node.width as usize, "bit"), digits(pair, node.width));
+        line(&mut text, &raw.shown(id), &remark);
+    }
+    for root in &problem.roots {
+        writeln!(text, "root {root}").expect("text takes all");
+    }
+    text
+}
+
+fn refused(bytes: &[u8], refusal: Refusal) -> String {
+    let mut text = format!("# refused {} at {}: {}\n", refusal.number, refusal.place, reason(refusal.number));
+    let number = |at: usize| usize::from(bytes[at]) | usize::from(bytes[at + 1]) << 8;
+    if refusal.number >= 3 {
+        let (version, nodes, roots) = (number(3), number(5), number(7));
+        writeln!(
+            text,
+            "# version {version}, {}, {}, {} bytes",
+            count(nodes, "node"),
+            count(roots, "root"),
+            bytes.len()
+        )
+        .expect("text takes all");
+    } else {
+        writeln!(text, "# {} bytes", bytes.len()).expect("text takes all");
+    }
+    if refusal.number <= 6 {
+        return text;
+    }
+    let (nodes, roots) = bytes[HEADER..].split_at(NODE * number(5));
+    for (id, part) in nodes.chunks(NODE).enumerate() {
+        let raw = Raw::new(part);
+        let here = refusal.number <= 12 && refusal.place == id;
+        let remark = if here {
+            format!("<== refused {}: {}: {}", refusal.number, reason(refusal.number), raw.bare())
+        } else {
+            count(raw.width.into(), "bit")
+        };
+        line(&mut text, &raw.shown(id), &remark);
+    }
+    for (place, root) in roots.chunks(2).enumerate() {
+        let shown = format!("root {}", u16::from_le_bytes([root[0], root[1]]));
+        if refusal.number == 13 && refusal.place == place {
+            line(&mut text, &shown, &format!("<== refused 13: {}", reason(13)));
+        } else {
+            text += &shown;
+            text.push('\n');
+        }
+    }
+    text
+}
+
+fn line(text: &mut String, shown: &str, remark: &str) {
+    writeln!(text, "{shown:<28} # {remark}").expect("text takes all");
+}
+
+fn count(number: usize, thing: &str) -> String {
+    format!("{number} {thing}{}", if number == 1 { "" } else { "s" })
+}
+
+/// A node as its bytes have it, accepted or not.
+struct Raw {
+    kind: u8,
+    width: u8,
+    fields: [u16; 3],
+    pair: Pair,
+}
+
+impl Raw {
+    fn new(part: &[u8]) -> Raw {
+        let word = |at: usize| u64::from_le_bytes(part[at..at + 8].try_into().expect("eight bytes"));
+        let field = |at: usize| u16::from_le_bytes([part[at], part[at + 1]]);
+        Raw {
+            kind: part[0],
+            width: part[1],
+            fields: [field(2), field(4), field(6)],
+            pair: Pair { lo: word(8), hi: word(16) },
+        }
+    }
+
+    /// The line of the text form.
+    fn shown(&self, id: usize) -> String {
+        let (w, [a, b, c]) = (self.width, self.fields);
+        let Some(kind) = Kind::from_number(self.kind) else {
+            return format!("{id} = {}", self.bare());
+        };
+        let name = kind.name();
+        match kind {
+            Kind::Variable if (1..=64).contains(&w) && self.pair != Pair::free(w.into()) => {
+                let width = u32::from(w);
+                let outside = if self.pair.hi > ones(width) { "?" } else { "" };
+                format!("{id} = {name} {w} {outside}{}", digits(self.pair, width))
+            }
+            Kind::Variable => format!("{id} = {name} {w}"),
+            Kind::Constant => format!("{id} = {name} {w} {}", self.pair.lo),
+            Kind::Extract => format!("{id} = {name} {a} {b} {w}"),
+            _ => match kind.operands() {
+                1 => format!("{id} = {name} {a}"),
+                2 => format!("{id} = {name} {a} {b}"),
+                _ => format!("{id} = {name} {a} {b} {c}"),
+            },
+        }
+    }
+
+    /// Every field by its number.
+    fn bare(&self) -> String {
+        let [a, b, c] = self.fields;
+        format!(
+            "kind {} width {} a {a} b {b} c {c} lo {:#x} hi {:#x}",
+            self.kind, self.width, self.pair.lo, self.pair.hi
+        )
+    }
+}
+
+#[cfg(test)]
+mod tests {
+    use super::*;
+    use generate::{damage, random, Rng};
+
+    #[test]
+    fn the_worked_example() {
+        let (text, refusal) = text(&crate::worked_example().bytes());
+        assert_eq!(refusal, None);
+        let lines: Vec<&str> = text.lines().collect();
+        assert_eq!(lines[0], "# 5 nodes, 1 root, longest chain under a root 2");
+        assert_eq!(lines[1], "0 = var 4                    # 4 bits ****");
+        assert_eq!(lines[5], "4 = eq 2 3                   # 1 bit *");
+        assert_eq!(lines[6], "root 4");
+    }
+
+    #[test]
+    fn what_is_printed_is_read_back() {
+        for index in 0..500 {
+            let mut rng = Rng::of_case(5, index);
+            let size = random::size(&mut rng);
+            let bytes = random::problem(&mut rng, size).bytes();
+            assert_eq!(crate::form::bytes(&text(&bytes).0), Ok(bytes));
+        }
+    }
+
+    #[test]
+    fn a_refused_place_is_marked() {
+        for index in 0..2000 {
+            let mut rng = Rng::of_case(6, index);
+            let problem = random::problem(&mut rng, 20);
+            let bytes = damage::damaged(&mut rng, &problem, 1 + (index % 13) as u8);
+            let (text, refusal) = text(&bytes);
+            let Some(Refusal { number, place }) = refusal else {
+                continue;
+            };
+            let mark = format!("<== refused {number}");
+            let marked: Vec<usize> =
+                text.lines().enumerate().filter(|(_, line)| line.contains(&mark)).map(|(at, _)| at).collect();
+            match number {
+                1..=6 => assert_eq!(marked, []),
+                7..=12 => assert_eq!(marked, [2 + place]),
+                _ => assert_eq!(marked, [2 + 20 + place]),
+            }
+        }
+    }
+}
