@@ -113,7 +113,7 @@ kept-same i n v v′ h = by-test (leb i n) (λ t. h (leb-true i n t))
 
 module _ (w wa wb low x y z : ℕ) where
   abbrev of-kept : Kind → ℕ → ℕ
-  of-kept o n = meaning o w wa wb low (kept (leb 1 n) x) (kept (leb 2 n) y) (kept (leb 3 n) z)
+  of-kept o n = meaning o w (kept (leb 1 n) wa) (kept (leb 2 n) wb) low (kept (leb 1 n) x) (kept (leb 2 n) y) (kept (leb 3 n) z)
 
   trimmed : (o : Kind) → meaning o w wa wb low x y z ≡ of-kept o (shape o .operands)
   trimmed variable = refl
@@ -131,11 +131,19 @@ module _ (w wa wb low x y z : ℕ) where
   trimmed concat = refl
   trimmed extract = refl
 
+-- their widths and values alone
+pub meaning-known : (o : Kind) (w wa wb low x y z wa′ wb′ x′ y′ z′ : ℕ)
+    → Used (shape o .operands) ((wa ≡ wa′) × (x ≡ x′)) ((wb ≡ wb′) × (y ≡ y′)) (z ≡ z′)
+    → meaning o w wa wb low x y z ≡ meaning o w wa′ wb′ low x′ y′ z′
+meaning-known o w wa wb low x y z wa′ wb′ x′ y′ z′ u =
+    let n = shape o .operands in
+    trimmed w wa wb low x y z o
+    ∙ ap₂ (λ (k v : ℕ). meaning o w k (kept (leb 2 n) wb) low v (kept (leb 2 n) y) (kept (leb 3 n) z)) (kept-same 1 n wa wa′ (λ h. u .a h .0)) (kept-same 1 n x x′ (λ h. u .a h .1))
+    ∙ ap₂ (λ (k v : ℕ). meaning o w (kept (leb 1 n) wa′) k low (kept (leb 1 n) x′) v (kept (leb 3 n) z)) (kept-same 2 n wb wb′ (λ h. u .b h .0)) (kept-same 2 n y y′ (λ h. u .b h .1))
+    ∙ ap (λ (v : ℕ). meaning o w (kept (leb 1 n) wa′) (kept (leb 2 n) wb′) low (kept (leb 1 n) x′) (kept (leb 2 n) y′) v) (kept-same 3 n z z′ (u .c))
+    ∙ sym (trimmed w wa′ wb′ low x′ y′ z′ o)
+
 pub meaning-used : (o : Kind) (w wa wb low x y z x′ y′ z′ : ℕ) → Used (shape o .operands) (x ≡ x′) (y ≡ y′) (z ≡ z′)
     → meaning o w wa wb low x y z ≡ meaning o w wa wb low x′ y′ z′
 meaning-used o w wa wb low x y z x′ y′ z′ u =
-    let n = shape o .operands in
-    trimmed w wa wb low x y z o
-    ∙ ap (λ (v : ℕ). meaning o w wa wb low v (kept (leb 2 n) y) (kept (leb 3 n) z)) (kept-same 1 n x x′ (u .a))
-    ∙ ap₂ (λ (v t : ℕ). meaning o w wa wb low (kept (leb 1 n) x′) v t) (kept-same 2 n y y′ (u .b)) (kept-same 3 n z z′ (u .c))
-    ∙ sym (trimmed w wa wb low x′ y′ z′ o)
+    meaning-known o w wa wb low x y z wa wb x′ y′ z′ (record { a = λ h. (refl, u .a h); b = λ h. (refl, u .b h); c = u .c })

@@ -2,15 +2,16 @@
 use mathlib.Core.Path.{_≡_, refl, sym, ap, _∙_, subst}
 use mathlib.Core.Bool.{true}
 use mathlib.Core.List.{List, []}
-use Prim.Native.Nat.{ℕ, zero, suc, _+_, _*_, _≤_, _<_}
+use Prim.Native.Nat.{ℕ, zero, suc, _+_, _*_, _^_, _≤_, _<_}
 use native.Mathlib.Omega.{arith}
 use lib.Dec.{ltb}
 use lib.ListN.{length, getD}
 use borrow.Author.Tests.{ltb-true}
 use Rattle.operators.specs.declared.table.Shape.{Shape}
-use Rattle.operators.specs.Table.{shapeOf}
+use Rattle.operators.specs.Table.{kindOf, shapeOf}
+use Rattle.operators.specs.MeaningLaws.{fit-used, meaning-known}
 use Rattle.operators.specs.Fixed.{pair}
-use Rattle.operators.specs.Ready.{Ternary}
+use Rattle.operators.specs.Ready.{Used, Ternary}
 use Rattle.problem.specs.declared.layout.Node.{Node}
 use Rattle.picking.specs.declared.spot.Three.{Three}
 use Rattle.picking.specs.Spot.{at}
@@ -19,6 +20,8 @@ use Rattle.problem.specs.declared.Checked.the-variants.{Accepted}
 use Rattle.problem.specs.Refusals.{checked}
 use Rattle.problem.specs.FactsLaws.{accepted-facts, node-inside}
 use Rattle.search.specs.Problem.{Prob, Pairs, three, problem, count, arg, spotOf, valueOf, evalUp, evaluate, pairAt, fillUp, noPairs, pairs, pairHi}
+use Rattle.picking.specs.Positions.{few-positions, used-of}
+use Rattle.search.specs.Positions.{at-three}
 use Rattle.search.specs.Good.{Good, GoodNode}
 use Rattle.search.specs.EvalLaws.{length-evalUp, evalUp-lt}
 use Rattle.search.specs.NodeLaws.{value-own, value-constant, value-operator, pair-own, pair-operator, pairIn}
@@ -43,24 +46,49 @@ at-third x zero n m = absurd (n refl)
 at-third x (suc zero) n m = absurd (m refl)
 at-third x (suc (suc i)) n m = refl
 
+-- what stands at the positions of a kind, as they are read and as they are defined
+used-of3 :
+    (n : ℕ) → n ≤ 3 → (f g : ℕ → ℕ) (id : ℕ → ℕ)
+    → Used n ((f (id 0) ≡ three n (λ j. f (id j)) .a) × (g (id 0) ≡ three n (λ j. g (id j)) .a))
+    ((f (id 1) ≡ three n (λ j. f (id j)) .b) × (g (id 1) ≡ three n (λ j. g (id j)) .b)) (g (id 2) ≡ three n (λ j. g (id j)) .c)
+used-of3 n few f g id =
+    record {
+      a = λ h. (sym (at-three n (λ j. f (id j)) 0 h few), sym (at-three n (λ j. g (id j)) 0 h few));
+      b = λ h. (sym (at-three n (λ j. f (id j)) 1 h few), sym (at-three n (λ j. g (id j)) 1 h few));
+      c = λ h. sym (at-three n (λ j. g (id j)) 2 h few);
+    }
+
 -- ---- node i of an accepted problem
 
 module _ (s vs : List ℕ) (i : ℕ) where
   -- its operator can be put to work
   pub operated : Evaluable s vs i → 2 ≤ nodeAt s i .kind → Operated s vs (nodeAt s i)
-  unfolding problem spotOf operatorIn heldIn widthsIn widthAt three
+  unfolding problem widthAt
   operated v k =
       let g : Good (problem s) = good-of s (v .accepted) in
-      let here : GoodNode (problem s) i = g .node i (v .inside) in
+      let here = g .node i (v .inside) in
+      let facts = accepted-facts s (v .accepted) .node i (v .inside) in
+      let fits : (j : ℕ) → j < count (problem s) i → getD vs (arg (problem s) i j) 0 < 2 ^ problem s .width (arg (problem s) i j) = λ j h. v .narrow (arg (problem s) i j) (here .below j h) in
       record {
-        below = λ j h. omega (arith, here .below j h, v .places, v .inside);
-        ready = spot-ready (problem s) g i (v .inside) k noPairs vs (λ j h. v .narrow (arg (problem s) i j) (here .below j h));
+        ready = record {
+          operator = k;
+          known = here .known;
+          some = here .some;
+          wide = here .wide;
+          fit = fit-used (kindOf (nodeAt s i .kind)) _ _ _ _ _ _ _ _ (facts .rule)
+              (λ h. let a = g .node (nodeAt s i .a) (omega (arith, here .below 0 h, v .inside)) in (a .some, a .wide))
+              (used-of (count (problem s) i) (λ j. getD vs (arg (problem s) i j) 0 < 2 ^ problem s .width (arg (problem s) i j)) fits);
+        };
       }
 
   -- and what it gives is the node's value
   pub gives-value : 2 ≤ nodeAt s i .kind → gives s vs (nodeAt s i) ≡ valueOf (problem s) vs i
-  unfolding problem operatorIn heldIn widthsIn widthAt three
-  gives-value k = sym (value-operator (problem s) i vs k)
+  unfolding problem widthAt
+  gives-value k =
+      let few = few-positions (nodeAt s i .kind) in
+      meaning-known (kindOf (nodeAt s i .kind)) _ _ _ _ _ _ _ _ _ _ _ _
+      (used-of3 (shapeOf (nodeAt s i .kind) .operands) few (λ n. nodeAt s n .width) (λ n. getD vs n 0) (at (ids (nodeAt s i))))
+      ∙ sym (value-operator (problem s) i vs k)
 
   pub own-value : nodeAt s i .kind ≡ 0 → getD vs i 0 ≡ valueOf (problem s) vs i
   unfolding problem

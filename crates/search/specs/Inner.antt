@@ -61,17 +61,23 @@ operatorIn s n = record { kind = n .kind; width = n .width; wa = widthsIn s n .a
 
 -- ---- evaluate.rt
 
+-- what the list l has at the ids in all three fields, whether the kind uses them or not
+abbrev pub standing : List ℕ → Node → Three
+standing l n = record { a = getD l (n .a) 0; b = getD l (n .b) 0; c = getD l (n .c) 0 }
+
+abbrev pub standingOp : List ℕ → Node → Op
+standingOp s n = record { kind = n .kind; width = n .width; wa = widthAt s (n .a); wb = widthAt s (n .b); low = n .b }
+
 -- a node whose operator can be put to work on what the values vs hold
 pub record Operated (s vs : List ℕ) (n : Node) : Type 0 where
-  pub below : OperandsBelow n (length vs)
-  pub ready : Ready (operatorIn s n) (heldIn vs n .a) (heldIn vs n .b) (heldIn vs n .c)
+  pub ready : Ready (standingOp s n) (getD vs (n .a) 0) (getD vs (n .b) 0) (getD vs (n .c) 0)
 
 -- what it gives
 abbrev pub operation : Op → Three → ℕ
 operation o x = meaning (kindOf (o .kind)) (o .width) (o .wa) (o .wb) (o .low) (x .a) (x .b) (x .c)
 
 abbrev pub gives : List ℕ → List ℕ → Node → ℕ
-gives s vs n = operation (operatorIn s n) (heldIn vs n)
+gives s vs n = operation (standingOp s n) (standing vs n)
 
 -- node i of an accepted problem s, where the places vs of the nodes below it hold values of their widths
 pub record Evaluable (s vs : List ℕ) (i : ℕ) : Type 0 where

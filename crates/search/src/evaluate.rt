@@ -1,20 +1,41 @@
 // Evaluation: every node's place set to its value, in ascending id.
 ghost use mathlib.Core.Path.{_≡_};
+ghost use lib.ListN.{getD};
 ghost use Rattle.search.specs.Problem.{problem, valueOf, evaluate as evaluated};
 ghost use Rattle.search.specs.Inner.{Operated, gives, Evaluable, Assigned};
-use crate::operands::held;
-use crate::operands::operator;
+use operators::Op;
 use problem::Node;
 use problem::node_at;
 use problem::node_count;
+use problem::width_at;
 
-// The value of a node of kinds 2 to 13, with its operands at the values lent.
+// The word at an id, and 0 past the end.
+fn word_at(values: &[u64], id: u16) -> u64
+    ensures { λ r. ⌜ r ≡ getD (now (values .entry)) id 0 ⌝ }
+{
+    let at = id as usize;
+    if at < values.len() { values[at] } else { 0 }
+}
+
+// The value of a node of kinds 2 to 13, with its operands at the values lent. All three fields are read, whether the kind
+// uses them or not: what an unused one finds has no bearing, and to read costs less than to ask.
 fn inner_value(bytes: &[u8], values: &[u64], n: Node) -> u64
     requires { ⌜ Operated (now bytes) (now values) n ⌝ }
     ensures { λ r. ⌜ r ≡ gives (now (bytes .entry)) (now (values .entry)) n ⌝ }
 {
-    let x = held(values, n);
-    operators::value(operator(bytes, n), x.a, x.b, x.c)
+    let op = Op {
+        kind: n.kind,
+        width: n.width as u32,
+        wa: width_at(bytes, n.a) as u32,
+        wb: width_at(bytes, n.b) as u32,
+        low: n.b as u32,
+    };
+    operators::value(
+        op,
+        word_at(values, n.a),
+        word_at(values, n.b),
+        word_at(values, n.c),
+    )
 }
 
 // The value of node i: a variable's own place, a constant's lo, else what its operator gives.
