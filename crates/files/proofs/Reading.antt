@@ -18,7 +18,8 @@ kind-byte s i =
     getD-take 24 (drop (nodeStart i) s) 0 0 (lit< tt) ∙ getD-drop (nodeStart i) s 0 0 ∙ ap (λ (n : ℕ). getD s n 0) (omega arith)
 
 -- a variable's line is that of its value, and another node has none; k and v are what was read as kind and value
-pub line-of : (s vs : List ℕ) (i k v : ℕ) → k ≡ nodeAt s i .kind → k ≡ 0 → v ≡ getD vs i 0 → nodeLine s vs i ≡ variableLine i v
+pub line-of :
+    (s vs : List ℕ) (i k v : ℕ) → k ≡ nodeAt s i .kind → k ≡ 0 → v ≡ getD vs i 0 → nodeLine s vs i ≡ variableLine i v
 unfolding nodeLine
 line-of s vs i k v e z f = rw (← e, eq-eqb k 0 z, ← f)
 

@@ -24,7 +24,8 @@ pub bytes-turn :
     → Laid (take (i + 1) xs) at b d n
 bytes-turn xs i l k h = rw (add-one, take-suc xs i 0) (laid-more l k)
 
-pub bytes-end : (xs : List ℕ) {b c : List ℕ} {at m : ℕ} (i : ℕ) → Laid (take i xs) at b c m → length xs ≤ i → Laid xs at b c m
+pub bytes-end :
+    (xs : List ℕ) {b c : List ℕ} {at m : ℕ} (i : ℕ) → Laid (take i xs) at b c m → length xs ≤ i → Laid xs at b c m
 bytes-end xs i l h = rw (take-all i xs h) at l
 
 -- ---- the variables' lines
@@ -63,8 +64,10 @@ unfolding wordsBelow
 words-past s b n zero h = rw (add-zero n)
 words-past s b n (suc k) h =
     let ws = wordsBelow s (n + k) in
+    let next = le64 s (8 * (n + k)) ∷ [] in
     let l : length (over b 0 ws) ≤ 0 + length ws = omega (arith, over-length b 0 ws, length-words s (n + k)) in
-    rw (add-suc n k) (sym (over-append ws (le64 s (8 * (n + k)) ∷ []) b 0) ∙ over-past (le64 s (8 * (n + k)) ∷ []) (over b 0 ws) (0 + length ws) l ∙ words-past s b n k h)
+    rw (add-suc n k)
+    (sym (over-append ws next b 0) ∙ over-past next (over b 0 ws) (0 + length ws) l ∙ words-past s b n k h)
 
 pub words-end :
     (s : List ℕ) {b c : List ℕ} {n : ℕ}

@@ -64,7 +64,10 @@ unfolding decimalIn
 said-in zero n h = one-digit n
 said-in (suc k) n h = by (ltb n 10) (λ l. said-in k (n / 10) l)
   where
-    by : (t : Bool) → (n / 10 < 10 ^ suc k → said 0 (decimalIn k (n / 10)) ≡ n / 10) → said 0 (cond t (digit n ∷ []) (decimalIn k (n / 10) ++ digit (n % 10) ∷ [])) ≡ n
+    by :
+        (t : Bool)
+        → (n / 10 < 10 ^ suc k → said 0 (decimalIn k (n / 10)) ≡ n / 10)
+        → said 0 (cond t (digit n ∷ []) (decimalIn k (n / 10) ++ digit (n % 10) ∷ [])) ≡ n
     by true e = one-digit n
     by false e =
         let s = e (omega (arith, pow-suc 10 (suc k))) in
@@ -102,7 +105,10 @@ unfolding decimalIn
 short-in zero n = record { most = omega arith }
 short-in (suc k) n = by (ltb n 10) (short-in k (n / 10))
   where
-    by : (t : Bool) → Short (k + 1) (decimalIn k (n / 10)) → Short (suc k + 1) (cond t (digit n ∷ []) (decimalIn k (n / 10) ++ digit (n % 10) ∷ []))
+    by :
+        (t : Bool)
+        → Short (k + 1) (decimalIn k (n / 10))
+        → Short (suc k + 1) (cond t (digit n ∷ []) (decimalIn k (n / 10) ++ digit (n % 10) ∷ []))
     by true s = record { most = omega arith }
     by false s = record { most = omega (arith, length-append (decimalIn k (n / 10)) (digit (n % 10) ∷ [])) }
 
@@ -157,7 +163,10 @@ short-lines s vs (suc n) =
     let l = both (short-lines s vs n) (short-node s vs n) in record { most = omega (arith, l .most) }
 
 -- a refusal's line, and the lines of a problem of at most 1,024 nodes, have room in 43,104 bytes
-pub short-printed : (s vs : List ℕ) (a : Answer) → ((v : Verdict) → a .outcome ≡ Settled v → nodeCount s ≤ 1024) → Short 43104 (printed s vs a)
+pub short-printed :
+    (s vs : List ℕ) (a : Answer)
+    → ((v : Verdict) → a .outcome ≡ Settled v → nodeCount s ≤ 1024)
+    → Short 43104 (printed s vs a)
 unfolding printed linesOf
 short-printed s vs a few = by (a .outcome) refl
   where

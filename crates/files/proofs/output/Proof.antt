@@ -37,7 +37,10 @@ same-length : tie.Need-same-length
 same-length c = search needs
 
 returns : tie.Need-returns
-returns c = rw (file-words _ refl (c .before .before .before .before .before .before .before .before .before .before .before .words-of .ensures), file-words _ refl (c .before .before .before .before .before .before .before .before .words-of2 .ensures)) (c .before .before .before .tell .ensures)
+returns c =
+    let start = file-words _ refl (c .before .before .before .before .before .before .before .before .before .before .before .words-of .ensures) in
+    let tape = file-words _ refl (c .before .before .before .before .before .before .before .before .words-of2 .ensures) in
+    rw (start, tape) (c .before .before .before .tell .ensures)
 
 pub output-spec : {M : Type 1} → statement M
 output-spec =

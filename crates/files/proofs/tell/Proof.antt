@@ -23,10 +23,12 @@ same-length-2 c = search needs
 
 returns : tie.Need-returns
 returns c =
+    let tape = c .before .before .before .before .before .before .before .before .before .tape-of .ensures in
+    let budget = c .before .before .before .before .before .before .before .before .budget-of .ensures in
     record {
       values = c .before .before .before .before .before .before .before .run .last .1 .0;
       answer = c .before .before .before .before .before .before .before .run .result;
-      called = rw (← c .before .before .before .before .before .before .before .before .before .tape-of .ensures, ← c .before .before .before .before .before .before .before .before .budget-of .ensures) (c .before .before .before .before .before .before .before .run .ensures);
+      called = rw (← tape, ← budget) (c .before .before .before .before .before .before .before .run .ensures);
       text = c .before .before .text-of .ensures;
     }
 

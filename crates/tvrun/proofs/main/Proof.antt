@@ -59,22 +59,34 @@ returns-3 : tie.Need-returns-3
 returns-3 c = search needs
 
 array-share-prefix-problem : tie.Need-array-share-prefix-problem
-array-share-prefix-problem c = bytes-most _ (c .before .before .before .before .before .before .before .before .before .before .before .before .before .before .before .p .given .1) (c .before .before .before .before .before .before .before .before .before .before .before .before .before .before .before .before .before .before .load .ensures)
+array-share-prefix-problem c =
+    bytes-most _ (c .before .before .before .before .before .before .before .before .before .before .before .before .before .before .before .p .given .1)
+    (c .before .before .before .before .before .before .before .before .before .before .before .before .before .before .before .before .before .before .load .ensures)
 
 slice-aggregate-print : tie.Need-slice-aggregate-print
-slice-aggregate-print c = bytes-taken _ (c .before .before .before .before .before .before .before .before .before .before .before .before .before .before .before .before .p .given .1) (c .before .before .before .before .before .before .before .before .before .before .before .before .before .before .before .before .before .before .before .load .ensures)
+slice-aggregate-print c =
+    bytes-taken _ (c .before .before .before .before .before .before .before .before .before .before .before .before .before .before .before .before .p .given .1)
+    (c .before .before .before .before .before .before .before .before .before .before .before .before .before .before .before .before .before .before .before .load .ensures)
 
 array-share-prefix-start : tie.Need-array-share-prefix-start
-array-share-prefix-start c = bytes-most _ (c .before .before .before .before .before .before .before .before .before .s .given .1) (c .before .before .before .before .before .before .before .before .before .before .before .before .load2 .ensures)
+array-share-prefix-start c =
+    bytes-most _ (c .before .before .before .before .before .before .before .before .before .s .given .1)
+    (c .before .before .before .before .before .before .before .before .before .before .before .before .load2 .ensures)
 
 slice-aggregate-print-2 : tie.Need-slice-aggregate-print-2
-slice-aggregate-print-2 c = bytes-taken _ (c .before .before .before .before .before .before .before .before .before .before .s .given .1) (c .before .before .before .before .before .before .before .before .before .before .before .before .before .load2 .ensures)
+slice-aggregate-print-2 c =
+    bytes-taken _ (c .before .before .before .before .before .before .before .before .before .before .s .given .1)
+    (c .before .before .before .before .before .before .before .before .before .before .before .before .before .load2 .ensures)
 
 array-share-prefix-tape : tie.Need-array-share-prefix-tape
-array-share-prefix-tape c = bytes-most _ (c .before .before .before .t .given .1) (c .before .before .before .before .before .before .load3 .ensures)
+array-share-prefix-tape c =
+    bytes-most _ (c .before .before .before .t .given .1)
+    (c .before .before .before .before .before .before .load3 .ensures)
 
 slice-aggregate-print-3 : tie.Need-slice-aggregate-print-3
-slice-aggregate-print-3 c = bytes-taken _ (c .before .before .before .before .t .given .1) (c .before .before .before .before .before .before .before .load3 .ensures)
+slice-aggregate-print-3 c =
+    bytes-taken _ (c .before .before .before .before .t .given .1)
+    (c .before .before .before .before .before .before .before .load3 .ensures)
 
 print-requires : tie.Need-print-requires
 print-requires c κs = search needs

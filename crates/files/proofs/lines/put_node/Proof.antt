@@ -18,7 +18,10 @@ same-length : tie.Need-same-length
 same-length c = search needs
 
 returns : tie.Need-returns
-returns c = rw (line-of _ _ _ _ _ (c .before .before .before .before .before .before .kind-at .ensures) (c .before .before .before .before .before .if1 .taken) (c .before .before .before .value-at .ensures)) (c .before .before .put-variable .ensures)
+returns c =
+    let kind = c .before .before .before .before .before .before .kind-at .ensures in
+    let value = c .before .before .before .value-at .ensures in
+    rw (line-of _ _ _ _ _ kind (c .before .before .before .before .before .if1 .taken) value) (c .before .before .put-variable .ensures)
 
 returns-2 : tie.Need-returns-2
 returns-2 c = rw (no-line _ _ _ _ (c .before .kind-at .ensures) (c .if1 .left)) (laid-none _ _ (c .before .before .before .before .before .pre))

@@ -34,7 +34,10 @@ same-length c = search needs
 
 returns : tie.Need-returns
 unfolding refusedLine labelled ascii
-returns c = laid-more (laid-more (c .before .before .before .before .before .before .before .before .before .before .before .before .before .put-labelled .ensures) (c .before .before .before .before .before .before .before .put-labelled2 .ensures)) (c .before .before .put-bytes .ensures)
+returns c =
+    let number = c .before .before .before .before .before .before .before .before .before .before .before .before .before .put-labelled .ensures in
+    let place = c .before .before .before .before .before .before .before .put-labelled2 .ensures in
+    laid-more (laid-more number place) (c .before .before .put-bytes .ensures)
 
 pub put-refusal-spec : {M : Type 1} → statement M
 put-refusal-spec =

@@ -25,7 +25,10 @@ same-length c = search needs
 
 returns : tie.Need-returns
 unfolding variableLine labelled ascii
-returns c = laid-more (laid-more (c .before .before .before .before .before .before .before .before .before .before .before .before .put-decimal .ensures) (c .before .before .before .before .before .before .before .put-labelled .ensures)) (c .before .before .put-bytes .ensures)
+returns c =
+    let id = c .before .before .before .before .before .before .before .before .before .before .before .before .put-decimal .ensures in
+    let value = c .before .before .before .before .before .before .before .put-labelled .ensures in
+    laid-more (laid-more id value) (c .before .before .put-bytes .ensures)
 
 pub put-variable-spec : {M : Type 1} → statement M
 put-variable-spec =

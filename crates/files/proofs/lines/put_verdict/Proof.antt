@@ -43,7 +43,13 @@ same-length c = search needs
 
 returns : tie.Need-returns
 unfolding verdictLine labelled ascii
-returns c = laid-more (laid-more (laid-more (laid-more (laid-more (c .before .before .before .before .before .before .before .before .before .before .before .before .before .before .before .before .before .before .before .before .before .before .before .before .before .before .put-bytes .ensures) (c .before .before .before .before .before .before .before .before .before .before .before .before .before .before .before .before .before .before .before .before .before .before .put-name .ensures)) (c .before .before .before .before .before .before .before .before .before .before .before .before .before .before .before .before .before .put-labelled .ensures)) (c .before .before .before .before .before .before .before .before .before .before .before .before .put-labelled2 .ensures)) (c .before .before .before .before .before .before .before .put-labelled3 .ensures)) (c .before .before .put-bytes2 .ensures)
+returns c =
+    let verdict = c .before .before .before .before .before .before .before .before .before .before .before .before .before .before .before .before .before .before .before .before .before .before .before .before .before .before .put-bytes .ensures in
+    let name = c .before .before .before .before .before .before .before .before .before .before .before .before .before .before .before .before .before .before .before .before .before .before .put-name .ensures in
+    let moves = c .before .before .before .before .before .before .before .before .before .before .before .before .before .before .before .before .before .put-labelled .ensures in
+    let steps = c .before .before .before .before .before .before .before .before .before .before .before .before .put-labelled2 .ensures in
+    let words = c .before .before .before .before .before .before .before .put-labelled3 .ensures in
+    laid-more (laid-more (laid-more (laid-more (laid-more verdict name) moves) steps) words) (c .before .before .put-bytes2 .ensures)
 
 pub put-verdict-spec : {M : Type 1} → statement M
 put-verdict-spec =

@@ -27,14 +27,19 @@ same-length : tie.Need-same-length
 same-length c = search needs
 
 returns : tie.Need-returns
-returns c = rw (printed-refused _ _ (c .before .before .before .before .before .before .before .before .before .before .args .answer) _ (c .before .before .before .before .before .outcome .given .1)) (c .before .before .put-refusal .ensures)
+returns c =
+    let answer = c .before .before .before .before .before .before .before .before .before .before .args .answer in
+    rw (printed-refused _ _ answer _ (c .before .before .before .before .before .outcome .given .1))
+    (c .before .before .put-refusal .ensures)
 
 same-length-2 : tie.Need-same-length-2
 same-length-2 c = search needs
 
 returns-2 : tie.Need-returns-2
 returns-2 c =
-    rw (printed-settled _ _ (c .before .before .before .before .before .before .before .before .before .before .before .before .before .before .before .args .answer) _ _ (c .before .before .before .before .before .before .before .before .before .before .outcome2 .given .1) (c .before .before .before .node-count .ensures))
+    let answer = c .before .before .before .before .before .before .before .before .before .before .before .before .before .before .before .args .answer in
+    let verdict = c .before .before .before .before .before .before .before .before .before .before .outcome2 .given .1 in
+    rw (printed-settled _ _ answer _ _ verdict (c .before .before .before .node-count .ensures))
     (laid-more (c .before .before .before .before .before .before .before .put-verdict .ensures) (c .before .before .put-nodes .ensures))
 
 pub text-of-spec : {M : Type 1} → statement M

@@ -41,7 +41,10 @@ loop-less : tie.Need-loop-less Inv-loop μ-loop
 loop-less c = omega arith
 
 loop-again : tie.Need-loop-again Inv-loop μ-loop
-loop-again c = (omega arith, words-turn _ (omega (arith, c .before .before .before .word-count .ensures, laid-kept (c .before .before .loop .inv .1))) (c .u64-at .ensures) (c .before .before .loop .inv .1))
+loop-again c =
+    let room = laid-kept (c .before .before .loop .inv .1) in
+    let count = c .before .before .before .word-count .ensures in
+    (omega arith, words-turn _ (omega arith) (c .u64-at .ensures) (c .before .before .loop .inv .1))
 
 same-length : tie.Need-same-length Inv-loop μ-loop
 same-length c = laid-kept (c .before .loop .inv .1)

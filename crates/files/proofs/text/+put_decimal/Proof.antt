@@ -59,7 +59,11 @@ module _ (t : ℕ) where
   same-length-2 c = laid-kept (c .before .before .put-byte2 .ensures) ∙ laid-kept (c .before .before .before .before .before .before .put-decimal .ensures)
 
   returns-2 : lts.Need-returns-2 (claims t) (given t) put-decimal.Post
-  returns-2 c = rw (decimal-more (c .before .before .before .before .before .before .before .before .before .before .args .n) (c .before .before .before .before .before .before .before .before .if1 .left) (omega arith)) (laid-more (c .before .before .before .before .before .before .put-decimal .ensures) (c .before .before .put-byte2 .ensures))
+  returns-2 c =
+      let rest = c .before .before .before .before .before .before .put-decimal .ensures in
+      let more = c .before .before .before .before .before .before .before .before .if1 .left in
+      rw (decimal-more (c .before .before .before .before .before .before .before .before .before .before .args .n) more (omega arith))
+      (laid-more rest (c .before .before .put-byte2 .ensures))
 
 pub +put-decimal-spec : {M : Type 1} → statement M
 +put-decimal-spec =
