@@ -1,7 +1,7 @@
 -- The contract of each public function determines its result: any two results that it allows are equal.
 use mathlib.Core.Path.{_≡_, sym, _∙_}
 use mathlib.Core.Bool.{Bool}
-use Prim.Native.Nat.{ℕ}
+use Prim.Native.Nat.{ℕ, _-_, _/_, _%_, _^_}
 use Rattle.operators.specs.declared.fixed.Pair.{Pair}
 use Rattle.operators.specs.declared.meaning.Op.{Op}
 use Rattle.operators.specs.declared.table.Rule.{Rule}
@@ -19,6 +19,12 @@ shape-of-determined kind r s = equal
 
 pub rule-holds-determined : (rule : Rule) (w wa wb wc b : ℕ) (r s : Bool) → r ≡ ruleHolds rule w wa wb wc b → s ≡ ruleHolds rule w wa wb wc b → r ≡ s
 rule-holds-determined rule w wa wb wc b r s = equal
+
+pub flip-determined : (a w r s : ℕ) → r ≡ (2 ^ w - 1) - a → s ≡ (2 ^ w - 1) - a → r ≡ s
+flip-determined a w r s = equal
+
+pub part-determined : (a k w r s : ℕ) → r ≡ a / 2 ^ k % 2 ^ w → s ≡ a / 2 ^ k % 2 ^ w → r ≡ s
+part-determined a k w r s = equal
 
 pub value-determined : (op : Op) (x y z r s : ℕ) → r ≡ meaning (kindOf (op .kind)) (op .width) (op .wa) (op .wb) (op .low) x y z
     → s ≡ meaning (kindOf (op .kind)) (op .width) (op .wa) (op .wb) (op .low) x y z → r ≡ s

@@ -7,6 +7,8 @@ mod table;
 pub use fixed::Pair;
 pub use fixed::pair_of;
 pub use meaning::Op;
+pub use meaning::flip;
+pub use meaning::part;
 pub use meaning::value;
 pub use table::Rule;
 pub use table::Shape;

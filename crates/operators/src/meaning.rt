@@ -15,7 +15,7 @@ pub struct Op {
 }
 
 // not a, of w bits.
-pub(crate) fn flip(a: u64, w: u32) -> u64
+pub fn flip(a: u64, w: u32) -> u64
     requires { ⌜ (w ≤ 64) × (a < 2 ^ w) ⌝ }
     ensures { λ r. ⌜ r ≡ (2 ^ w - 1) - a ⌝ }
 {
@@ -62,7 +62,7 @@ pub(crate) fn join(a: u64, b: u64, k: u32) -> u64
 }
 
 // The w bits of a from bit k on.
-pub(crate) fn part(a: u64, k: u32, w: u32) -> u64
+pub fn part(a: u64, k: u32, w: u32) -> u64
     requires { ⌜ (w ≤ 64) × (k < 64) ⌝ }
     ensures { λ r. ⌜ r ≡ a / 2 ^ k % 2 ^ w ⌝ }
 {

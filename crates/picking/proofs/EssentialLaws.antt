@@ -2,26 +2,24 @@
 use mathlib.Core.Path.{_≡_, refl, sym, ap, _∙_, subst}
 use mathlib.Core.Bool.{Bool, true, false, not, _&&_, _||_}
 use mathlib.Core.Logic.{_⊎_, inl, inr, ⊎-elim}
-use Prim.Native.Nat.{ℕ, zero, suc, _-_, _≤_, _<_}
+use Prim.Native.Nat.{ℕ, zero, suc, _-_, _/_, _%_, _^_, _≤_, _<_}
 use native.Mathlib.Omega.{arith}
-use lib.Dec.{eqb}
+use lib.Dec.{T, eqb}
 use borrow.Author.Tests.{eqb-true, eqb-false}
 use Rattle.words.specs.declared.found.Found.{Found}
 use Rattle.words.specs.declared.found.Found.the-variants.{At, Nothing}
 use Rattle.words.specs.Agree.{Agrees, agrees-lt}
 use Rattle.words.specs.Decides.{Decides, decides-same}
 use Rattle.words.specs.Pick.{Empty, Picked, pick-member}
-use Rattle.operators.specs.Table.{kindOf, shapeOf}
-use Rattle.operators.specs.Meaning.{meaning, Fit}
+use Rattle.operators.specs.Table.{kindOf}
+use Rattle.operators.specs.Meaning.{meaning}
 use Rattle.picking.specs.declared.spot.Three.{Three}
 use Rattle.picking.specs.declared.spot.Spot.{Spot}
 use Rattle.picking.specs.Spot.{at, put, positions, Other, value, Inverse, Essential, Fair, Asked}
 use Rattle.picking.specs.Positions.{at-put-same, at-put-other, value-used}
-use Rattle.picking.specs.declared.boxes.Set.{Set}
-use Rattle.picking.specs.Boxes.{Solves, Chosen}
 use Rattle.picking.specs.Asks.{branchOf, Had}
 use Rattle.picking.proofs.ChoiceLaws.{chosen-at}
-use Rattle.picking.proofs.SpotLaws.{slot-lt, count-at, rule-at, slot-at, two-by-two, other-of, inverse-picked}
+use Rattle.picking.proofs.SpotLaws.{slot-lt, count-at, rule-at, slot-at, two-by-two, other-of}
 
 -- ---- tests
 pub decides-and : (A B : Type 0) (a b : Bool) → Decides A a → Decides B b → Decides (A × B) (a && b)
@@ -38,6 +36,10 @@ decides-not : (A : Type 0) (a : Bool) → Decides A a → Decides (A → ⊥) (n
 decides-not A true p = λ f. f p
 decides-not A false p = p
 
+pub decides-is : (a : Bool) → Decides (a ≡ true) a
+decides-is true = refl
+decides-is false = λ e. subst T (sym e) tt
+
 pub decides-eq : (x y : ℕ) → Decides (x ≡ y) (eqb x y)
 decides-eq x y = go (eqb x y) refl
   where
@@ -48,13 +50,17 @@ decides-eq x y = go (eqb x y) refl
 -- ---- of one position, as not and extract have: no others can help
 module _ (S : Spot) (F : Fair S) where
   -- what code asks of the operator, and what it is told
-  pub alone-fit : (S .kind ≡ 2) ⊎ (S .kind ≡ 13) → Fit (shapeOf (S .kind) .rule) (S .width) (S .widths .a) 0 (S .low) (S .current .a) 0 0
-  alone-fit (inl e) = rw (e, ← rule-at F e) (slot-lt (slot-at F e 0 (omega arith)))
-  alone-fit (inr e) = rw e (rule-at F e, slot-at F e 0 (omega arith) .wide, slot-lt (slot-at F e 0 (omega arith)))
+  pub not-fits : S .kind ≡ 2 → S .current .a < 2 ^ S .width
+  not-fits e = rw (rule-at F e) at (slot-lt (slot-at F e 0 (omega arith)))
 
-  pub alone-value : (S .kind ≡ 2) ⊎ (S .kind ≡ 13) → meaning (kindOf (S .kind)) (S .width) (S .widths .a) 0 (S .low) (S .current .a) 0 0 ≡ value S (S .current)
-  alone-value (inl e) = rw e
-  alone-value (inr e) = rw e
+  pub not-value : S .kind ≡ 2 → (2 ^ S .width - 1) - S .current .a ≡ value S (S .current)
+  not-value e = rw e
+
+  pub extract-fits : S .kind ≡ 13 → S .low < 64
+  extract-fits e = omega (arith, rule-at F e, slot-at F e 0 (omega arith) .wide, F .some)
+
+  pub extract-value : S .kind ≡ 13 → S .current .a / 2 ^ S .low % 2 ^ S .width ≡ value S (S .current)
+  extract-value e = rw e
 
   pub alone-one : (S .kind ≡ 2) ⊎ (S .kind ≡ 13) → positions S ≡ 1
   alone-one = ⊎-elim (count-at F) (count-at F)
@@ -91,18 +97,14 @@ module _ (S : Spot) (t i : ℕ) (two : positions S ≡ 2) (h : i < 2) where
       (sym (swapped (put (S .current) (1 - i) v)) ∙ ap (λ (n : ℕ). value S (put (S .current) (1 - i) n)) (at-put-same (S .current) (1 - i) v (omega arith)) ∙ m .gives)
 
 -- as code finds it out, by a pick at the other position
-pub two-told : {S : Spot} {t i lo hi : ℕ} {set : Set} → Asked S i t → positions S ≡ 2 → Solves (at (S .widths) (1 - i)) (λ v. value S (put (S .current) (1 - i) v) ≡ t) set
-    → lo ≡ at (S .los) (1 - i) → hi ≡ at (S .his) (1 - i) → (r : Found) → Picked (Chosen set lo hi) 0 r → (r ≡ Nothing → Essential S t i) × ((v : ℕ) → r ≡ At v → Essential S t i → ⊥)
-two-told {S} {t} {i} {lo} {hi} {set} A two s el eh r k = (
-  (λ e. two-yes S t i two here (subst (Picked (Inverse S t (1 - i)) 0) e picked)),
-  (λ v e. two-no S t i two here v (pick-member (subst (Picked (Inverse S t (1 - i)) 0) e picked))),
+pub two-told : {S : Spot} {t i : ℕ} → Asked S i t → positions S ≡ 2 → (r : Found) → Picked (Inverse S t (1 - i)) 0 r → (r ≡ Nothing → Essential S t i) × ((v : ℕ) → r ≡ At v → Essential S t i → ⊥)
+two-told {S} {t} {i} A two r k = (
+  (λ e. two-yes S t i two here (subst (Picked (Inverse S t (1 - i)) 0) e k)),
+  (λ v e. two-no S t i two here v (pick-member (subst (Picked (Inverse S t (1 - i)) 0) e k))),
 )
   where
     here : i < 2
     here = rw two at (A .position)
-
-    picked : Picked (Inverse S t (1 - i)) 0 r
-    picked = inverse-picked 0 r (record { fair = A .fair; position = rw two (omega arith); target = A .target }) s (rw (el, eh) at k)
 
 -- ---- of `if`
 

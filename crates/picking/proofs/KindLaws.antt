@@ -44,7 +44,7 @@ extract-left n l u w = eqb→eq n 13 (left-over (singles 2 11) (λ x. eqb x 13) 
 
 -- the arms of the consistent sets, and those that are left: xor, add, eq, if
 abbrev pub consistentArms : List (List ℕ)
-consistentArms = (12 ∷ []) ∷ (10 ∷ []) ∷ (8 ∷ []) ∷ (7 ∷ []) ∷ (6 ∷ []) ∷ (3 ∷ []) ∷ (2 ∷ 13 ∷ []) ∷ []
+consistentArms = (13 ∷ []) ∷ (12 ∷ []) ∷ (10 ∷ []) ∷ (8 ∷ []) ∷ (7 ∷ []) ∷ (6 ∷ []) ∷ (3 ∷ []) ∷ (2 ∷ []) ∷ []
 
 abbrev pub makeup : List ℕ
 makeup = 4 ∷ 5 ∷ 9 ∷ 11 ∷ []

@@ -9,3 +9,4 @@ pub mod JoiningLaws
 pub mod KindLaws
 pub mod ShiftLaws
 pub mod SpotLaws
+pub mod UnionLaws

@@ -11,10 +11,11 @@ use Rattle.words.specs.Mul.{mod-scale}
 use Rattle.words.specs.Shift.{out-left}
 use Rattle.words.specs.Zeros.{Tail, tail-lt, tail-unique, Top, top-lt, top-unique}
 use Rattle.picking.specs.declared.boxes.Set.{Set}
-use Rattle.picking.specs.declared.boxes.Set.the-variants.{One, Left, Right}
-use Rattle.picking.specs.Boxes.{Has, span, Solves, Some}
+use Rattle.picking.specs.declared.boxes.Set.the-variants.{One, Many}
+use Rattle.picking.specs.declared.unions.Shifts.the-variants.{Left, Right}
+use Rattle.picking.specs.declared.unions.Union.the-variants.{Shifted}
+use Rattle.picking.specs.Boxes.{Among, span, Solves, Some}
 use Rattle.picking.specs.Asks.{Sized, joint}
-use Rattle.picking.proofs.ArithmeticLaws.{bit-clear}
 use Rattle.picking.proofs.BoxLaws.{in-low, low-in, in-word, in-span, span-solves, solves-by}
 
 -- an amount of w is a value of w bits
@@ -55,6 +56,15 @@ zero-shl w v x e = ap (λ (n : ℕ). n * 2 ^ v % 2 ^ w) e ∙ ap (λ (n : ℕ). 
 -- ---- zeros at the end
 odd-zero : (n : ℕ) → n ≡ 0 → n ≡ 1 → ⊥
 odd-zero n e f = omega arith
+
+-- a bit below n is a bit of the n low ones
+bit-kept : (v n j : ℕ) → j < n → v % 2 ^ n / 2 ^ j % 2 ≡ v / 2 ^ j % 2
+unfolding bit
+bit-kept v n j l = bit-cut j v n l
+
+-- where the n low bits are clear, so is each
+bit-clear : (v n j : ℕ) → j < n → v % 2 ^ n ≡ 0 → v / 2 ^ j % 2 ≡ 0
+bit-clear v n j l z = sym (bit-kept v n j l) ∙ ap (λ (x : ℕ). x / 2 ^ j % 2) z ∙ ap (λ (x : ℕ). x % 2) (zero-div (2 ^ j))
 
 tail-le : {d t j : ℕ} (k : ℕ) → Tail d t j → t % 2 ^ k ≡ 0 → k ≤ j
 tail-le {d} {t} {j} k tail z = le-of-suc-le-suc (lt-of-not-le (λ (l : suc j ≤ k). odd-zero (t / 2 ^ j % 2) (bit-clear t k j l z) (tail .set)))
@@ -111,10 +121,10 @@ module _ {w t j : ℕ} (z : Sized w t) (f : t ≡ 0 → ⊥) (tail : Tail 64 t j
   within s v m =
       ⊎-elim (λ (l : s < w). tail-le s tail (shl-clear w s v t (le-of-lt l) m)) (λ (l : w ≤ s). absurd (f (sym m ∙ shl-past w s v l))) (lt-or-ge s w)
 
-  pub some-shl : Solves w (λ v. Some w (λ s. v * 2 ^ s % 2 ^ w ≡ t)) (Left t w (j + 1))
+  pub some-shl : Solves w (λ v. Some w (λ s. v * 2 ^ s % 2 ^ w ≡ t)) (Many (Shifted (Left t w) (j + 1)))
   some-shl = record { fine = (omega (arith, j-lt), z .wide, z .fits); to = to; back = back }
     where
-      to : (v : ℕ) → v < 2 ^ w → Has (Left t w (j + 1)) v → Some w (λ s. v * 2 ^ s % 2 ^ w ≡ t)
+      to : (v : ℕ) → v < 2 ^ w → Among (Left t w) (j + 1) v → Some w (λ s. v * 2 ^ s % 2 ^ w ≡ t)
       to v h m =
           let s = m .at in
           let l : s ≤ j = let b = m .below in omega arith in
@@ -125,7 +135,7 @@ module _ {w t j : ℕ} (z : Sized w t) (f : t ≡ 0 → ⊥) (tail : Tail 64 t j
             gives = shl-gives w s v t sw (tail-clear s tail l) (in-low (w - s) (t / 2 ^ s) v (part-lt w s t sw (z .fits)) (m .inside .inside));
           }
 
-      back : (v : ℕ) → v < 2 ^ w → Some w (λ s. v * 2 ^ s % 2 ^ w ≡ t) → Has (Left t w (j + 1)) v
+      back : (v : ℕ) → v < 2 ^ w → Some w (λ s. v * 2 ^ s % 2 ^ w ≡ t) → Among (Left t w) (j + 1) v
       back v h m =
           let s = m .by in
           let l : s ≤ j = within s v (m .gives) in
@@ -218,15 +228,15 @@ module _ {w t j : ℕ} (z : Sized w t) (top : Top 64 t j) where
   room : (s : ℕ) → j + s < w → t * 2 ^ s + 2 ^ s ≤ 2 ^ w
   room s l = le-trans (fit-ring t (2 ^ s) (2 ^ suc j) (top .below)) (le-trans (le-of-eq (sym (pow-add 2 (suc j) s))) (pow-mono (omega arith)))
 
-  pub some-lshr : Solves w (λ v. Some w (λ s. v / 2 ^ s ≡ t)) (Right t (w - j))
+  pub some-lshr : Solves w (λ v. Some w (λ s. v / 2 ^ s ≡ t)) (Many (Shifted (Right t) (w - j)))
   some-lshr = record { fine = (omega (arith, z .wide), λ s l. le-trans (room s (omega arith)) (pow-mono (z .wide))); to = to; back = back }
     where
-      to : (v : ℕ) → v < 2 ^ w → Has (Right t (w - j)) v → Some w (λ s. v / 2 ^ s ≡ t)
+      to : (v : ℕ) → v < 2 ^ w → Among (Right t) (w - j) v → Some w (λ s. v / 2 ^ s ≡ t)
       to v h m =
           let b = m .below in
           record { by = m .at; fits = lt-of-le-of-lt (omega arith) (grow w); gives = span-to (m .at) t v (m .inside .after) (m .inside .upto) }
 
-      back : (v : ℕ) → v < 2 ^ w → Some w (λ s. v / 2 ^ s ≡ t) → Has (Right t (w - j)) v
+      back : (v : ℕ) → v < 2 ^ w → Some w (λ s. v / 2 ^ s ≡ t) → Among (Right t) (w - j) v
       back v h m =
           let l = reach (m .by) v h (m .gives) in
           let b = span-back (m .by) t v (m .gives) in

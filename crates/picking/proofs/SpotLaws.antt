@@ -1,8 +1,9 @@
 -- Laws of spots: what the arms of a match on the kind know, and what an arm's set comes to at the spot.
 use mathlib.Core.Path.{_≡_, refl, sym, ap, _∙_}
+use mathlib.Core.Bool.{Bool, true, false}
 use mathlib.Core.Logic.{inl, inr}
 use Prim.Native.Nat.{ℕ, zero, suc, _+_, _-_, _%_, _^_, _≤_, _<_}
-use native.Mathlib.Nat.{le-refl, le-of-eq, lt-of-lt-of-le, mod-lt, mod-eq-of-lt, add-mod-mod, add-mod-right}
+use native.Mathlib.Nat.{le-refl, le-trans, le-of-eq, lt-of-lt-of-le, mod-lt, mod-eq-of-lt, add-mod-mod, add-mod-right}
 use native.Mathlib.Omega.{arith}
 use lib.Bits.{bitXor, xor-lt, xor-comm}
 use lib.Dec.{eqb}
@@ -17,10 +18,10 @@ use Rattle.operators.specs.Meaning.{meaning, flag, choose}
 use Rattle.picking.specs.declared.spot.Three.{Three}
 use Rattle.picking.specs.declared.spot.Spot.{Spot}
 use Rattle.picking.specs.declared.boxes.Set.{Set}
-use Rattle.picking.specs.Spot.{at, put, positions, value, Inverse, Reaches, Consistent, Slot, Fair, Asked}
+use Rattle.picking.specs.Spot.{at, put, positions, value, Reaches, Slot, Fair, Asked}
 use Rattle.picking.specs.Positions.{at-put-same, value-used}
 use Rattle.picking.specs.Boxes.{Solves, Chosen, Some}
-use Rattle.picking.specs.Asks.{joint, sideOf, Joined}
+use Rattle.picking.specs.Asks.{joint, sideOf, Joined, Meets, Wanted}
 use Rattle.picking.proofs.ArithmeticLaws.{sum-comm}
 use Rattle.picking.proofs.BitwiseLaws.{xor-back}
 use Rattle.picking.proofs.BoxLaws.{solves-by}
@@ -116,6 +117,10 @@ joined-at {S} {i} {t} A key =
       wide = omega (arith, e, A .fair .wide);
       fits = rw e (A .target);
     }
+
+-- extract
+pub extract-at : {S : Spot} {i t : ℕ} → Asked S i t → S .kind ≡ 13 → (1 ≤ S .width) × (S .low + S .width ≤ 64) × (t < 2 ^ S .width)
+extract-at A key = (A .fair .some, le-trans (rule-at (A .fair) key) (slot-at (A .fair) key 0 (omega arith) .wide), A .target)
 
 side-at : (S : Spot) (i : ℕ) → i < 2 → sideOf i (S .widths .a) (S .widths .b) ≡ at (S .widths) i
 side-at S i h = two-of (λ i. sideOf i (S .widths .a) (S .widths .b) ≡ at (S .widths) i) i h refl refl
@@ -311,8 +316,6 @@ picked-at {S} {i} {t} {set} {P} {Q} p r A s to back =
     short v g = agrees-lt (at (S .widths) i) (A .fair .slots i (A .position) .under) g
 
 module _ {S : Spot} {i t : ℕ} {set : Set} (p : ℕ) (r : Found) (A : Asked S i t) where
-  pub inverse-picked : Solves (at (S .widths) i) (λ v. value S (put (S .current) i v) ≡ t) set → Picked (Chosen set (at (S .los) i) (at (S .his) i)) p r → Picked (Inverse S t i) p r
-  inverse-picked s = picked-at p r A s (λ v g m. record { agrees = g; gives = m }) (λ v m. (m .agrees, m .gives))
-
-  pub consistent-picked : Solves (at (S .widths) i) (λ v. Reaches S t i v) set → Picked (Chosen set (at (S .los) i) (at (S .his) i)) p r → Picked (Consistent S t i) p r
-  consistent-picked s = picked-at p r A s (λ v g m. record { agrees = g; reaches = m }) (λ v m. (m .agrees, m .reaches))
+  pub wanted-picked : (b : Bool) → Solves (at (S .widths) i) (Meets b S t i) set → Picked (Chosen set (at (S .los) i) (at (S .his) i)) p r → Picked (Wanted b S t i) p r
+  wanted-picked true s = picked-at p r A s (λ v g m. record { agrees = g; gives = m }) (λ v m. (m .agrees, m .gives))
+  wanted-picked false s = picked-at p r A s (λ v g m. record { agrees = g; reaches = m }) (λ v m. (m .agrees, m .reaches))

@@ -1,9 +1,12 @@
 -- What the operators' sets ask and how their equations speak of two positions.
 use mathlib.Core.Path.{_≡_}
+use mathlib.Core.Bool.{Bool, true, false}
 use mathlib.Core.Logic.{_⊎_}
 use Prim.Native.Nat.{ℕ, zero, suc, _+_, _-_, _/_, _%_, _^_, _≤_, _<_}
 use Rattle.words.specs.Agree.{Agrees}
 use Rattle.picking.specs.declared.spot.Three.{Three}
+use Rattle.picking.specs.declared.spot.Spot.{Spot}
+use Rattle.picking.specs.Spot.{put, value, Inverse, Reaches, Consistent}
 
 -- a target of a width of at most 64 bits
 pub record Sized (w t : ℕ) : Type 0 where
@@ -41,3 +44,13 @@ pub record Joined (i a b t : ℕ) : Type 0 where
 -- pair is lo, hi, and the other branch's l, h
 abbrev pub Had : ℕ → ℕ → ℕ → ℕ → ℕ → ℕ → ℕ → Type 0
 Had lo hi way kept l h t = (Agrees lo hi way × (kept ≡ t)) ⊎ (Agrees lo hi (1 - way) × Agrees l h t)
+
+-- what is asked of a value at position i besides that it agrees: that it gives t with the others as they are, or with some
+abbrev pub Meets : Bool → Spot → ℕ → ℕ → ℕ → Type 0
+Meets true S t i v = value S (put (S .current) i v) ≡ t
+Meets false S t i v = Reaches S t i v
+
+-- the inverse or the consistent set
+abbrev pub Wanted : Bool → Spot → ℕ → ℕ → ℕ → Type 0
+Wanted true = Inverse
+Wanted false = Consistent

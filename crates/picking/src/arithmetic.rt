@@ -1,6 +1,7 @@
 // Add and mul: the values of an operand that give t, and those that do so with some value of the other.
 use crate::basic;
 use crate::boxes::Set;
+use crate::unions::Union;
 ghost use mathlib.Core.Path.{_≡_};
 ghost use Prim.Native.Nat.{_+_, _*_, _%_, _^_, _<_};
 ghost use Rattle.picking.specs.Boxes.{Solves, Some};
@@ -38,5 +39,5 @@ pub(crate) fn consistent_mul(w: u32, t: u64) -> Set
     if t == 0 {
         return basic::all();
     }
-    Set::Low(words::low_bit(t) + 1)
+    Set::Many(Union::Low(words::low_bit(t) + 1))
 }

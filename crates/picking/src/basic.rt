@@ -3,6 +3,7 @@ use crate::boxes::Set;
 use crate::boxes::between;
 use crate::boxes::low_are;
 use crate::boxes::ternary;
+use crate::unions::Union;
 ghost use mathlib.Core.Path.{_≡_};
 ghost use Prim.Native.Nat.{_%_, _^_, _≤_, _<_};
 ghost use Rattle.words.specs.Agree.{Agrees};
@@ -36,17 +37,14 @@ pub(crate) fn range(a: u64, b: u64) -> Set
 pub(crate) fn only(c: u64) -> Set
     ensures { λ r. ⌜ Solves 64 (λ v. v ≡ c) r ⌝ }
 {
-    range(c, c)
+    Set::Only(c, true)
 }
 
 // The one value c where x is t, else none.
 pub(crate) fn only_if(c: u64, x: u64, t: u64) -> Set
     ensures { λ r. ⌜ Solves 64 (λ v. (v ≡ c) × (x ≡ t)) r ⌝ }
 {
-    if x != t {
-        return Set::Empty;
-    }
-    only(c)
+    Set::Only(c, x == t)
 }
 
 // The values below s.
@@ -73,13 +71,7 @@ pub(crate) fn above(s: u64) -> Set
 pub(crate) fn apart(s: u64) -> Set
     ensures { λ r. ⌜ Solves 64 (λ v. v ≡ s → ⊥) r ⌝ }
 {
-    if s == 0 {
-        return above(0);
-    }
-    if s == u64::MAX {
-        return below(u64::MAX);
-    }
-    Set::Two(between(0, s - 1), between(s + 1, u64::MAX))
+    Set::Many(Union::Except(s))
 }
 
 // The values that agree with lo, hi.

@@ -1,7 +1,6 @@
 // Whether a position is essential: no values of the others that agree give t while it keeps its current value.
-use crate::boxes::pick_in;
 use crate::choice::branch;
-use crate::sets::inverse_set;
+use crate::picks::pick;
 use crate::spot::Spot;
 use crate::spot::at;
 use words::Found;
@@ -9,24 +8,27 @@ ghost use mathlib.Core.Path.{_≡_};
 ghost use mathlib.Core.Logic.{_⊎_};
 ghost use Prim.Native.Nat.{_≤_, _<_};
 ghost use Rattle.words.specs.Decides.{Decides};
-ghost use Rattle.picking.specs.Spot.{positions, Fair, Essential, Asked};
+ghost use Rattle.picking.specs.Spot.{positions, value, Fair, Essential, Asked};
 ghost use Rattle.picking.specs.Asks.{Had};
+
+// What a not or an extract gives on its current value.
+fn value_now(s: Spot) -> u64
+    requires { ⌜ Fair s × ((s .kind ≡ 2) ⊎ (s .kind ≡ 13)) ⌝ }
+    ensures { λ r. ⌜ r ≡ value s (s .current) ⌝ }
+{
+    let now = s.current;
+    if s.kind == 2 {
+        return operators::flip(now.a, s.width);
+    }
+    operators::part(now.a, s.low, s.width)
+}
 
 // The one position of not and extract is essential exactly if its current value does not give t.
 fn essential_alone(s: Spot, t: u64) -> bool
     requires { ⌜ Fair s × ((s .kind ≡ 2) ⊎ (s .kind ≡ 13)) ⌝ }
     ensures { λ r. ⌜ Decides (Essential s t 0) r ⌝ }
 {
-    let widths = s.widths;
-    let now = s.current;
-    let op = operators::Op {
-        kind: s.kind,
-        width: s.width,
-        wa: widths.a as u32,
-        wb: 0,
-        low: s.low,
-    };
-    operators::value(op, now.a, 0, 0) != t
+    value_now(s) != t
 }
 
 // Of two positions one is essential exactly if the other has no inverse value: none that agrees with its pair.
@@ -34,13 +36,7 @@ fn essential_of_two(s: Spot, i: u32, t: u64) -> bool
     requires { ⌜ Asked s i t × (positions s ≡ 2) ⌝ }
     ensures { λ r. ⌜ Decides (Essential s t i) r ⌝ }
 {
-    let los = s.los;
-    let his = s.his;
-    let j = 1 - i;
-    let set = inverse_set(s, j, t);
-    let lo = at(los, j);
-    let hi = at(his, j);
-    let Found::At(_) = pick_in(set, lo, hi, 0) else {
+    let Found::At(_) = pick(s, 1 - i, t, 0, true) else {
         return true;
     };
     false

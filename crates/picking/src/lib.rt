@@ -11,6 +11,7 @@ mod picks;
 mod sets;
 mod shifts;
 mod spot;
+mod unions;
 
 pub use essentials::essential;
 pub use picks::pick_consistent;

@@ -6,34 +6,55 @@ use crate::sets::inverse_set;
 use crate::spot::Spot;
 use crate::spot::at;
 use words::Found;
+ghost use mathlib.Core.Path.{_≡_};
 ghost use Prim.Native.Nat.{_%_, _^_, _<_};
 ghost use Rattle.words.specs.Pick.{Picked};
 ghost use Rattle.picking.specs.Spot.{at as standing, positions, Fair, Inverse, Consistent, Asked};
-ghost use Rattle.picking.specs.Boxes.{Fine, Chosen};
+ghost use Rattle.picking.specs.Boxes.{Solves};
+ghost use Rattle.picking.specs.Asks.{Meets, Wanted};
 
-// The pick from the values of a set that agree with the pair of position i; the proposal is taken modulo 2 to the
-// operand's width.
-fn pick_from(set: Set, s: Spot, i: u32, p: u64) -> Found
-    requires { ⌜ Fair s × (i < positions s) × Fine set ⌝ }
-    ensures { λ r. ⌜ Picked (Chosen set (standing (s .los) i) (standing (s .his) i)) (p % 2 ^ standing (s .widths) i) r ⌝ }
+// The proposal, taken modulo 2 to the operand's width.
+fn proposed(s: Spot, i: u32, p: u64) -> u64
+    requires { ⌜ Fair s × (i < positions s) ⌝ }
+    ensures { λ r. ⌜ r ≡ p % 2 ^ standing (s .widths) i ⌝ }
 {
     let widths = s.widths;
+    words::cut(p, at(widths, i) as u32)
+}
+
+// The inverse or the consistent set, without the operand's pair.
+fn set_of(s: Spot, i: u32, t: u64, inverse: bool) -> Set
+    requires { ⌜ Asked s i t ⌝ }
+    ensures { λ r. ⌜ Solves (standing (s .widths) i) (Meets inverse s t i) r ⌝ }
+{
+    if inverse {
+        return inverse_set(s, i, t);
+    }
+    consistent_set(s, i, t)
+}
+
+// The pick from the inverse or the consistent set. One function for both, so that each set is picked from where it is made.
+pub(crate) fn pick(s: Spot, i: u32, t: u64, p: u64, inverse: bool) -> Found
+    requires { ⌜ Asked s i t ⌝ }
+    ensures { λ r. ⌜ Picked (Wanted inverse s t i) p r ⌝ }
+{
     let los = s.los;
     let his = s.his;
-    let q = words::cut(p, at(widths, i) as u32);
-    pick_in(set, at(los, i), at(his, i), q)
+    let lo = at(los, i);
+    let hi = at(his, i);
+    pick_in(set_of(s, i, t, inverse), lo, hi, p)
 }
 
 pub fn pick_inverse(s: Spot, i: u32, t: u64, p: u64) -> Found
     requires { ⌜ Asked s i t ⌝ }
     ensures { λ r. ⌜ Picked (Inverse s t i) (p % 2 ^ standing (s .widths) i) r ⌝ }
 {
-    pick_from(inverse_set(s, i, t), s, i, p)
+    pick(s, i, t, proposed(s, i, p), true)
 }
 
 pub fn pick_consistent(s: Spot, i: u32, t: u64, p: u64) -> Found
     requires { ⌜ Asked s i t ⌝ }
     ensures { λ r. ⌜ Picked (Consistent s t i) (p % 2 ^ standing (s .widths) i) r ⌝ }
 {
-    pick_from(consistent_set(s, i, t), s, i, p)
+    pick(s, i, t, proposed(s, i, p), false)
 }

@@ -47,13 +47,14 @@ pub(crate) fn consistent_set(s: Spot, i: u32, t: u64) -> Set
     let kind = s.kind;
     let w = s.width;
     match kind {
-        2 | 13 => inverse_set(s, i, t),
+        2 => bitwise::inverse_not(w, t),
         3 => bitwise::consistent_and(w, t),
         6 => arithmetic::consistent_mul(w, t),
         7 => shifts::consistent_shl(i, w, t),
         8 => shifts::consistent_lshr(i, w, t),
         10 => comparisons::consistent_below(i, s.widths.a as u32, t),
         12 => joining::consistent_concat(i, s.widths.a as u32, s.widths.b as u32, t),
+        13 => joining::inverse_extract(w, s.low, t),
         _ => basic::all(),
     }
 }

@@ -2,6 +2,8 @@
 use crate::basic;
 use crate::boxes::Set;
 use crate::boxes::shifted;
+use crate::unions::Shifts;
+use crate::unions::Union;
 ghost use mathlib.Core.Path.{_≡_};
 ghost use Prim.Native.Nat.{_*_, _/_, _%_, _^_, _<_};
 ghost use Rattle.picking.specs.Boxes.{Solves, Some};
@@ -64,7 +66,7 @@ pub(crate) fn consistent_shl(i: u32, w: u32, t: u64) -> Set
     }
     let n = words::low_bit(t);
     if i == 0 {
-        return Set::Left(t, w, n + 1);
+        return Set::Many(Union::Shifted(Shifts::Left(t, w), n + 1));
     }
     basic::range(0, n as u64)
 }
@@ -124,7 +126,7 @@ pub(crate) fn consistent_lshr(i: u32, w: u32, t: u64) -> Set
     }
     let n = w - words::top_bit(t);
     if i == 0 {
-        return Set::Right(t, n);
+        return Set::Many(Union::Shifted(Shifts::Right(t), n));
     }
     basic::range(0, (n - 1) as u64)
 }

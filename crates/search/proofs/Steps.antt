@@ -3,26 +3,26 @@ use mathlib.Core.Path.{_≡_, refl, sym, ap, _∙_, subst}
 use mathlib.Core.Logic.{_⊎_, inl, inr, ⊎-elim}
 use mathlib.Core.Bool.{Bool, true, false, not, _&&_, _||_}
 use mathlib.Core.List.{List, [], _∷_, _++_}
-use Prim.Native.Nat.{ℕ, _+_, _/_, _%_, _^_, _≤_, _<_}
+use Prim.Native.Nat.{ℕ, zero, suc, _+_, _-_, _/_, _%_, _^_, _≤_, _<_}
 use native.Mathlib.Omega.{arith}
 use native.Mathlib.Nat.{mod-lt, not-suc-le-zero}
 use native.Mathlib.Numerals.{add-one}
 use native.Mathlib.Decide.{ℕ-discrete}
 use lib.Dec.{eqb}
-use lib.ListN.{length, getD, take, set, length-set}
-use lib.Seq.{take-suc-set, getD-take, length-take-le}
+use lib.ListN.{length, getD, length-append}
 use borrow.Author.Tests.{eqb-true, eqb-false}
 use Rattle.words.specs.declared.found.Found.{Found}
 use Rattle.words.specs.declared.found.Found.the-variants.{At, Nothing}
 use Rattle.words.specs.Decides.{Decides, decides-yes, decides-no}
 use Rattle.words.specs.Pick.{Picked, Empty}
 use Rattle.picking.specs.declared.spot.Spot.{Spot}
+use Rattle.picking.specs.declared.spot.Three.{Three}
 use Rattle.picking.specs.Spot.{at, positions, Inverse, Consistent, Essential, NoneEssential, Candidate}
 use Rattle.search.specs.declared.step.Positions.{Positions}
 use Rattle.search.specs.Step.{Lists, Lists.done, Lists.keep, Lists.skip, Out, blocked, Follows, Follows.consistent, Follows.nothing, Step, Step.none-left, Step.followed}
 use Rattle.search.specs.Decide.{Some, lists-member}
 use Rattle.picking.specs.Positions.{few-positions}
-use Rattle.search.specs.Inner.{outOf, shown, grown, Room, Kept, Open, Candidates}
+use Rattle.search.specs.Inner.{outOf, inOrder, shown, none, grown, Kept, Open, Candidates}
 
 -- ---- tests
 
@@ -59,23 +59,50 @@ some-next A i false false s d =
       | no x ↦ s (record { at = z .at; at-lt = omega (arith, z .at-lt); holds = z .holds })
     ]
 
-pub room-two : (S : Spot) {p : Positions} {i : ℕ} → Room p i → i < positions S → Room p 2
-room-two S r h = record { few = omega (arith, r .few, few-positions (S .kind)); size = r .size }
+-- ---- positions
+
+-- of at most two the third place is not read
+third-spare : (n x y z : ℕ) → n ≤ 2 → inOrder n (record { a = x; b = y; c = 0 }) ≡ inOrder n (record { a = x; b = y; c = z })
+third-spare zero x y z h = refl
+third-spare (suc zero) x y z h = refl
+third-spare (suc (suc zero)) x y z h = refl
+third-spare (suc (suc (suc n))) x y z h = absurd (omega arith)
+
+pub few-two : (S : Spot) {k i : ℕ} → k ≤ i → i < positions S → k ≤ 2
+few-two S r h = omega (arith, few-positions (S .kind))
 
 pub kept-yes :
     (p : Positions) (i : ℕ) (b : Bool)
     → b ≡ true
-    → Room p 2
-    → Kept p i b (record { list = set (p .list) (p .count) i; count = p .count + 1 })
+    → p .count ≤ 2
+    → Kept p i b (record { list = record { a = i; b = p .list .a; c = p .list .b }; count = p .count + 1 })
 kept-yes p i b e r =
+    let l = p .list in
     record {
       few = omega arith;
-      size = length-set (p .list) (p .count) i ∙ r .size;
-      shows = rw (e, add-one (p .count), take-suc-set (p .list) (p .count) i (omega (arith, r .few, r .size)));
+      shows = rw (e, add-one (p .count)) (ap (λ (k : List ℕ). k ++ (i ∷ [])) (third-spare (p .count) (l .a) (l .b) (l .c) r));
     }
 
-pub kept-no : (p : Positions) (i : ℕ) (b : Bool) → b ≡ false → Room p 2 → Kept p i b p
-kept-no p i b e r = record { few = omega arith; size = r .size; shows = rw e }
+pub kept-no : (p : Positions) (i : ℕ) (b : Bool) → b ≡ false → Kept p i b p
+kept-no p i b e = record { few = omega arith; shows = rw e }
+
+length-shown : (n : ℕ) (l : Three) → length (inOrder n l) ≡ n
+length-shown zero l = refl
+length-shown (suc n) l = simp length-append (omega (arith, length-shown n (record { a = l .b; b = l .c; c = 0 })))
+
+-- the position numbered k stands as many places before the last as come after it
+numbered : (n : ℕ) (l : Three) (k : ℕ) → k < n → n ≤ 3 → at l (n - 1 - k) ≡ getD (inOrder n l) k 0
+numbered zero l k h f = absurd (omega arith)
+numbered (suc zero) l zero h f = refl
+numbered (suc zero) l (suc k) h f = absurd (omega arith)
+numbered (suc (suc zero)) l zero h f = refl
+numbered (suc (suc zero)) l (suc zero) h f = refl
+numbered (suc (suc zero)) l (suc (suc k)) h f = absurd (omega arith)
+numbered (suc (suc (suc zero))) l zero h f = refl
+numbered (suc (suc (suc zero))) l (suc zero) h f = refl
+numbered (suc (suc (suc zero))) l (suc (suc zero)) h f = refl
+numbered (suc (suc (suc zero))) l (suc (suc (suc k))) h f = absurd (omega arith)
+numbered (suc (suc (suc (suc n)))) l k h f = absurd (omega arith)
 
 -- ---- the candidates
 
@@ -85,14 +112,11 @@ module _ (S : Spot) (t : ℕ) where
 
   -- the first i positions are sorted: whether some are essential, those that are and are open, and those that are open
   pub record Sorted (i : ℕ) (any : Bool) (es os : Positions) : Type 0 where
-    pub room-es : Room es i
-    pub room-os : Room os i
+    pub few-es : es .count ≤ i
+    pub few-os : os .count ≤ i
     pub some : Decides (Some (Essential S t) i) any
     pub essentials : Lists Needed i (shown es)
     pub opens : Lists (Open S) i (shown os)
-
-  room-more : {p q : Positions} {i : ℕ} {b : Bool} → Room p i → Kept p i b q → Room q (i + 1)
-  room-more r k = record { few = omega (arith, r .few, k .few); size = k .size }
 
   pub sorted-more :
       (i : ℕ) (any e o : Bool) {es os es′ os′ : Positions}
@@ -104,18 +128,18 @@ module _ (S : Spot) (t : ℕ) where
       → Sorted (i + 1) (any || e) es′ os′
   sorted-more i any e o f d b k l =
       record {
-        room-es = room-more (f .room-es) k;
-        room-os = room-more (f .room-os) l;
+        few-es = omega (arith, f .few-es, k .few);
+        few-os = omega (arith, f .few-os, l .few);
         some = some-next (Essential S t) i any e (f .some) d;
         essentials = rw (k .shows) (lists-grown (e && o) (f .essentials) (decides-both _ _ e o d b));
         opens = rw (l .shows) (lists-grown o (f .opens) b);
       }
 
-  pub sorted-none : Sorted 0 false (record { list = 0 ∷ 0 ∷ 0 ∷ []; count = 0 }) (record { list = 0 ∷ 0 ∷ 0 ∷ []; count = 0 })
+  pub sorted-none : Sorted 0 false none none
   sorted-none =
       record {
-        room-es = record { few = omega arith; size = refl };
-        room-os = record { few = omega arith; size = refl };
+        few-es = omega arith;
+        few-os = omega arith;
         some = λ z. not-suc-le-zero (z .at-lt);
         essentials = done;
         opens = done;
@@ -123,15 +147,12 @@ module _ (S : Spot) (t : ℕ) where
 
   -- all are sorted: the candidates
   module _ (i : ℕ) (any : Bool) (es os : Positions) (f : Sorted i any es os) (n : i ≡ positions S) where
-    room-three : {p : Positions} → Room p i → Room p 3
-    room-three r = record { few = omega (arith, r .few, few-positions (S .kind)); size = r .size }
-
     pub all-essential : any ≡ true → Candidates S t es
     unfolding NoneEssential
     all-essential e =
         let z : Some (Essential S t) (positions S) = rw n at (decides-yes _ any (f .some) e) in
         record {
-          room = room-three (f .room-es);
+          few = omega (arith, f .few-es, few-positions (S .kind));
           lists =
               lists-same (λ i p. record { wanted = inl (p .0); open-bits = p .1 })
               (λ i c. (⊎-elim (λ e. e) (λ x. absurd (x (z .at) (z .at-lt) (z .holds))) (c .wanted), c .open-bits))
@@ -143,7 +164,7 @@ module _ (S : Spot) (t : ℕ) where
     all-open e =
         let x : Some (Essential S t) (positions S) → ⊥ = rw n at (decides-no _ any (f .some) e) in
         record {
-          room = room-three (f .room-os);
+          few = omega (arith, f .few-os, few-positions (S .kind));
           lists =
               lists-same (λ i o. record { wanted = inr (λ j h e. x (record { at = j; at-lt = h; holds = e })); open-bits = o })
               (λ i c. c .open-bits) (rw n at (f .opens));
@@ -153,22 +174,23 @@ module _ (S : Spot) (t : ℕ) where
 
   module _ (e : ℕ) (r : Positions) (c : Candidates S t r) where
     long : length (shown r) ≡ r .count
-    long = length-take-le (r .count) (r .list) (omega (arith, c .room .few, c .room .size))
+    long = length-shown (r .count) (r .list)
 
-    place : 0 < r .count → getD (shown r) (e / 2 % length (shown r)) 0 ≡ getD (r .list) (e / 2 % r .count) 0
-    place h = rw (long, getD-take (r .count) (r .list) (e / 2 % r .count) 0 (mod-lt (e / 2) h))
+    -- it is found
+    place : (i : ℕ) → 0 < r .count → i ≡ at (r .list) (r .count - 1 - e / 2 % r .count) → i ≡ getD (shown r) (e / 2 % length (shown r)) 0
+    place i h q = q ∙ numbered (r .count) (r .list) (e / 2 % r .count) (mod-lt (e / 2) h) (c .few) ∙ rw long
 
-    pub step-lt : 0 < r .count → e / 2 % r .count < 3
-    step-lt h = omega (arith, mod-lt (e / 2) h, c .room .few)
+    pub step-below : (i : ℕ) → 0 < r .count → i ≡ at (r .list) (r .count - 1 - e / 2 % r .count) → i < positions S
+    step-below i h q =
+        rw (place i h q) (lists-member (c .lists) (e / 2 % length (shown r)) (mod-lt (e / 2) (omega (arith, long))) .below)
 
-    pub step-below : 0 < r .count → getD (r .list) (e / 2 % r .count) 0 < positions S
-    step-below h = rw (← place h) (lists-member (c .lists) (e / 2 % length (shown r)) (mod-lt (e / 2) (omega (arith, long))) .below)
-
-    pub step-followed : (p : ℕ) (o : Out) → 0 < r .count → Follows S t e p (getD (r .list) (e / 2 % r .count) 0) o → Step S t e p o
-    step-followed p o h k = followed (shown r) (c .lists) (omega (arith, long)) (rw (place h) k)
+    pub step-followed :
+        (p : ℕ) (o : Out) (i : ℕ) → 0 < r .count → i ≡ at (r .list) (r .count - 1 - e / 2 % r .count) → Follows S t e p i o → Step S t e p o
+    step-followed p o i h q k = followed (shown r) (c .lists) (omega (arith, long)) (rw (place i h q) at k)
 
     pub step-none : (p : ℕ) → r .count ≡ 0 → Step S t e p blocked
-    step-none p z = none-left (subst (λ (k : ℕ). Lists (Candidate S t) (positions S) (take k (r .list))) z (c .lists)) refl
+    step-none p z =
+        none-left (subst (λ (k : ℕ). Lists (Candidate S t) (positions S) (inOrder k (r .list))) z (c .lists)) refl
 
 -- ---- the pick
 

@@ -2,20 +2,19 @@
 use mathlib.Core.Path.{_≡_}
 use mathlib.Core.Bool.{Bool, true, false}
 use mathlib.Core.List.{List, [], _∷_, _++_}
-use Prim.Native.Nat.{ℕ, _+_, _*_, _^_, _≤_, _<_}
+use Prim.Native.Nat.{ℕ, zero, suc, _+_, _*_, _^_, _≤_, _<_}
 use lib.Dec.{ltb}
-use lib.ListN.{length, getD, take, drop}
+use lib.ListN.{length, getD, drop}
 use Rattle.words.specs.declared.found.Found.{Found}
 use Rattle.words.specs.declared.found.Found.the-variants.{At, Nothing}
 use Rattle.operators.specs.declared.meaning.Op.{Op}
 use Rattle.operators.specs.Table.{kindOf, shapeOf}
-use Rattle.operators.specs.Meaning.{meaning}
-use Rattle.operators.specs.Ready.{Ready, PairsReady}
+use Rattle.operators.specs.Ready.{PairsReady}
 use Rattle.operators.specs.declared.fixed.Pair.{Pair}
 use Rattle.operators.specs.Fixed.{pair, pairOf}
 use Rattle.problem.specs.declared.layout.Node.{Node}
 use Rattle.problem.specs.declared.Checked.the-variants.{Accepted}
-use Rattle.problem.specs.Layout.{nodeCount, widthAt}
+use Rattle.problem.specs.Layout.{nodeCount, nodeAt, widthAt}
 use Rattle.problem.specs.Refusals.{checked}
 use Rattle.picking.specs.declared.spot.Three.{Three}
 use Rattle.picking.specs.declared.spot.Spot.{Spot}
@@ -61,23 +60,13 @@ operatorIn s n = record { kind = n .kind; width = n .width; wa = widthsIn s n .a
 
 -- ---- evaluate.rt
 
--- what the list l has at the ids in all three fields, whether the kind uses them or not
-abbrev pub standing : List ℕ → Node → Three
-standing l n = record { a = getD l (n .a) 0; b = getD l (n .b) 0; c = getD l (n .c) 0 }
+-- the bytes of node i are there
+abbrev pub Readable : List ℕ → ℕ → Type 0
+Readable s i = 9 + 24 * i + 24 ≤ length s
 
-abbrev pub standingOp : List ℕ → Node → Op
-standingOp s n = record { kind = n .kind; width = n .width; wa = widthAt s (n .a); wb = widthAt s (n .b); low = n .b }
-
--- a node whose operator can be put to work on what the values vs hold
-pub record Operated (s vs : List ℕ) (n : Node) : Type 0 where
-  pub ready : Ready (standingOp s n) (getD vs (n .a) 0) (getD vs (n .b) 0) (getD vs (n .c) 0)
-
--- what it gives
-abbrev pub operation : Op → Three → ℕ
-operation o x = meaning (kindOf (o .kind)) (o .width) (o .wa) (o .wb) (o .low) (x .a) (x .b) (x .c)
-
-abbrev pub gives : List ℕ → List ℕ → Node → ℕ
-gives s vs n = operation (standingOp s n) (standing vs n)
+-- the operator of node n, read with b as its field b
+abbrev pub standingOp : List ℕ → Node → ℕ → Op
+standingOp s n b = record { kind = n .kind; width = n .width; wa = nodeAt s (n .a) .width; wb = nodeAt s b .width; low = n .b }
 
 -- node i of an accepted problem s, where the places vs of the nodes below it hold values of their widths
 pub record Evaluable (s vs : List ℕ) (i : ℕ) : Type 0 where
@@ -155,14 +144,17 @@ abbrev pub outOf : ℕ → Found → Out
 outOf i (At v) = goes i v
 outOf i Nothing = blocked
 
+-- so many positions of a list whose last comes first, in order
+abbrev pub inOrder : ℕ → Three → List ℕ
+inOrder zero l = []
+inOrder (suc n) l = inOrder n (record { a = l .b; b = l .c; c = 0 }) ++ (l .a ∷ [])
+
 -- the positions that p holds, in order
 abbrev pub shown : Positions → List ℕ
-shown p = take (p .count) (p .list)
+shown p = inOrder (p .count) (p .list)
 
--- at most k of them, in a list of 3 places
-pub record Room (p : Positions) (k : ℕ) : Type 0 where
-  pub few : p .count ≤ k
-  pub size : length (p .list) ≡ 3
+abbrev pub none : Positions
+none = record { list = record { a = 0; b = 0; c = 0 }; count = 0 }
 
 abbrev pub grown : Bool → List ℕ → ℕ → List ℕ
 grown true l i = l ++ (i ∷ [])
@@ -170,7 +162,6 @@ grown false l i = l
 
 pub record Kept (p : Positions) (i : ℕ) (yes : Bool) (r : Positions) : Type 0 where
   pub few : r .count ≤ p .count + 1
-  pub size : length (r .list) ≡ 3
   pub shows : shown r ≡ grown yes (shown p) i
 
 -- the operand at position i is not fully fixed
@@ -183,7 +174,7 @@ pub record Stepping (S : Spot) (t : ℕ) : Type 0 where
   pub target : t < 2 ^ S .width
 
 pub record Candidates (S : Spot) (t : ℕ) (r : Positions) : Type 0 where
-  pub room : Room r 3
+  pub few : r .count ≤ 3
   pub lists : Lists (Candidate S t) (positions S) (shown r)
 
 -- ---- moves.rt

@@ -1,9 +1,10 @@
 // One step of a move, at one node: its candidates, the one that is followed, and the pick there.
 ghost use mathlib.Core.Path.{_≡_};
+ghost use Prim.Native.Nat.{_≤_};
 ghost use Rattle.words.specs.Decides.{Decides};
 ghost use Rattle.picking.specs.Spot.{at, Asked};
 ghost use Rattle.search.specs.Step.{Step as StepMade, Follows};
-ghost use Rattle.search.specs.Inner.{outOf, Room, Kept, Open, Stepping, Candidates};
+ghost use Rattle.search.specs.Inner.{outOf, none, Kept, Open, Stepping, Candidates};
 use operators::shape_of;
 use picking::Spot;
 use picking::Three;
@@ -12,9 +13,9 @@ use picking::pick_consistent;
 use picking::pick_inverse;
 use words::Found;
 
-// Some of a node's positions, in order a, b, c.
+// Some of a node's positions, so many, the last first. (Not an array: three numbers stay out of memory.)
 pub(crate) struct Positions {
-    pub list: [u32; 3],
+    pub list: Three,
     pub count: u64,
 }
 
@@ -46,17 +47,28 @@ fn open_at(s: Spot, i: u32) -> bool
     held_at(lo, i) != held_at(hi, i)
 }
 
+// No positions.
+fn no_positions() -> Positions
+    ensures { λ r. ⌜ r ≡ none ⌝ }
+{
+    let list = Three { a: 0, b: 0, c: 0 };
+    Positions { list, count: 0 }
+}
+
 // The positions p, and i after them if it is to be kept.
 fn kept(p: Positions, i: u32, yes: bool) -> Positions
-    requires { ⌜ Room p 2 ⌝ }
+    requires { ⌜ p .count ≤ 2 ⌝ }
     ensures { λ r. ⌜ Kept p i yes r ⌝ }
 {
     if yes {
-        let at = p.count as usize;
-        let mut next = p;
-        next.list[at] = i;
-        next.count = p.count + 1;
-        return next;
+        let before = p.list;
+        let list = Three {
+            a: i as u64,
+            b: before.a,
+            c: before.b,
+        };
+        let count = p.count + 1;
+        return Positions { list, count };
     }
     p
 }
@@ -68,14 +80,8 @@ fn candidates(s: Spot, t: u64) -> Positions
 {
     let n = shape_of(s.kind).operands as u32;
     let mut any = false;
-    let mut essentials = Positions {
-        list: [0; 3],
-        count: 0,
-    };
-    let mut opens = Positions {
-        list: [0; 3],
-        count: 0,
-    };
+    let mut essentials = no_positions();
+    let mut opens = no_positions();
     let mut i: u32 = 0;
     while i < n {
         let needed = essential(s, i, t);
@@ -116,8 +122,8 @@ pub(crate) fn step(s: Spot, t: u64, e: u64, p: u64) -> Way
         };
     }
     let list = c.list;
-    let k = (e / 2 % n) as usize;
-    let i = list[k];
+    let k = e / 2 % n;
+    let i = held_at(list, (n - 1 - k) as u32) as u32;
     let found = pick_at(s, t, e, p, i);
     Way { position: i, found }
 }

@@ -1,3 +1,4 @@
+-- `search::run` meets its contract.
 use mathlib.Core.Path.{_≡_, refl, sym, _∙_}
 use Rattle.words.specs.Decides.{decides-yes, decides-no}
 use Rattle.search.specs.Problem.{zeros}

@@ -1,3 +1,4 @@
+-- `search::settled` meets its contract.
 use Rattle.search.proofs.settled.Statement.{statement}
 use Rattle.search.proofs.settled.Tie as tie
 

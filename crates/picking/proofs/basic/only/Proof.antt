@@ -1,16 +1,10 @@
--- The interval from c to c.
-use native.Mathlib.Nat.{le-refl}
-use native.Mathlib.Omega.{arith}
-use borrow.Author.Needs.{needs}
-use Rattle.picking.proofs.BoxLaws.{solves-by}
+-- The value is there.
+use mathlib.Core.Path.{refl}
 use Rattle.picking.proofs.basic.only.Statement.{statement}
 use Rattle.picking.proofs.basic.only.Tie as tie
 
-range-requires : tie.Need-range-requires
-range-requires c κs = search needs
-
 returns : tie.Need-returns
-returns c = solves-by (le-refl 64) (c .range .ensures) (λ v l m. omega arith) (λ v l m. (omega arith, omega arith))
+returns c = record { fine = tt; to = λ v h m. m .0; back = λ v h m. (m, refl) }
 
 pub only-spec : {M : Type 1} → statement M
-only-spec = tie.close (tie.spec range-requires returns)
+only-spec = tie.close (tie.spec returns)

@@ -1,63 +1,78 @@
--- One box is picked from at once; else two searches, from p on and from 0 on.
+-- Variant by variant.
 use mathlib.Core.Path.{subst}
 use borrow.Author.Needs.{needs}
-use Rattle.words.specs.Pick.{FirstFrom, Picked, above, picked-around}
-use Rattle.picking.specs.Boxes.{In, Chosen}
+use Rattle.words.specs.Pick.{Picked}
+use Rattle.picking.specs.Boxes.{In}
 use Rattle.picking.specs.declared.boxes.Box.{Box}
 use Rattle.picking.proofs.BoxLaws.{one-picked}
 use Rattle.picking.proofs.boxes.pick_in.Statement.{statement}
 use Rattle.picking.proofs.boxes.pick_in.Tie as tie
 
-enum-known-set : tie.Need-enum-known-set
-enum-known-set c = search needs
-
-meet-requires : tie.Need-meet-requires
-meet-requires c κs = search needs
-
-pick-in-box-requires : tie.Need-pick-in-box-requires
-pick-in-box-requires c κs = search needs
-
-returns : tie.Need-returns
-returns c =
-    let k = c .before .before .before in
-    let s = k .before .before in
-    rw (k .set .given .1)
-    (one-picked _ (s .args .lo) (s .args .hi) (s .args .p) (c .pick-in-box .result)
-    (subst (λ (b : Box). Picked (In b) (s .args .p) (c .pick-in-box .result)) (c .before .meet .ensures) (c .pick-in-box .ensures)))
-
-first-in-requires : tie.Need-first-in-requires
-first-in-requires c κs = search needs
-
-enum-known-v : tie.Need-enum-known-v
-enum-known-v c = search needs
-
 enum-told : tie.Need-enum-told
 enum-told c = search needs
 
-first-in-requires-2 : tie.Need-first-in-requires-2
-first-in-requires-2 c κs = search needs
+-- src/boxes.rt:118:19
+enum-known-set : tie.Need-enum-known-set
+enum-known-set c = search needs
 
+-- src/boxes.rt:118:25
+pick-only-requires : tie.Need-pick-only-requires
+pick-only-requires c κs = search needs
+
+-- src/boxes.rt:119:18
+enum-known-set-2 : tie.Need-enum-known-set-2
+enum-known-set-2 c = search needs
+
+-- src/boxes.rt:119:36
+meet-requires : tie.Need-meet-requires
+meet-requires c κs = search needs
+
+-- src/boxes.rt:119:24
+pick-in-box-requires : tie.Need-pick-in-box-requires
+pick-in-box-requires c κs = search needs
+
+-- src/boxes.rt:120:19
+enum-known-set-3 : tie.Need-enum-known-set-3
+enum-known-set-3 c = search needs
+
+-- src/boxes.rt:120:25
+pick-in-union-requires : tie.Need-pick-in-union-requires
+pick-in-union-requires c κs = let s = c .before .before .before in (rw (c .before .set3 .given .1) at (s .pre .0), s .pre .1)
+
+-- src/boxes.rt:112:1
+returns : tie.Need-returns
+returns c = rw (c .enum-told .given .1) (λ v m. m .has)
+
+-- src/boxes.rt:112:1
 returns-2 : tie.Need-returns-2
-returns-2 c =
-    let f = c .before .before .before in
-    let s = f .before .before in
-    picked-around (Chosen (s .args .set) (s .args .lo) (s .args .hi)) _ (c .first-in2 .result)
-    (subst (FirstFrom _ _) (c .before .enum-told .given .1) (f .first-in .ensures)) (c .first-in2 .ensures)
+returns-2 c = rw (c .before .before .set .given .1) (c .pick-only .ensures (c .before .before .before .before .args .p))
 
+-- src/boxes.rt:112:1
 returns-3 : tie.Need-returns-3
-returns-3 c = above (subst (FirstFrom _ _) (c .before .v .given .1) (c .before .before .before .first-in .ensures))
+returns-3 c =
+    let k = c .before .before .before in
+    let s = k .before .before in
+    rw (k .set2 .given .1)
+    (one-picked _ (s .args .lo) (s .args .hi) (s .args .p) (c .pick-in-box .result)
+    (subst (λ (b : Box). Picked (In b) (s .args .p) (c .pick-in-box .result)) (c .before .meet .ensures) (c .pick-in-box .ensures)))
+
+-- src/boxes.rt:112:1
+returns-4 : tie.Need-returns-4
+returns-4 c = rw (c .before .before .set3 .given .1) (c .pick-in-union .ensures)
 
 pub pick-in-spec : {M : Type 1} → statement M
 pick-in-spec =
     tie.close
     (tie.spec
+    enum-told
     enum-known-set
+    pick-only-requires
+    enum-known-set-2
     meet-requires
     pick-in-box-requires
+    enum-known-set-3
+    pick-in-union-requires
     returns
-    first-in-requires
-    enum-known-v
-    enum-told
-    first-in-requires-2
     returns-2
-    returns-3)
+    returns-3
+    returns-4)

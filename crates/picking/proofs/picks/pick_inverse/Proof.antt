@@ -1,17 +1,18 @@
--- The members of the set that agree with the pair are the inverse values.
+-- The pick with the proposal cut to the width.
 use borrow.Author.Needs.{needs}
-use Rattle.picking.proofs.SpotLaws.{inverse-picked}
 use Rattle.picking.proofs.picks.pick_inverse.Statement.{statement}
 use Rattle.picking.proofs.picks.pick_inverse.Tie as tie
 
-inverse-set-requires : tie.Need-inverse-set-requires
-inverse-set-requires c κs = search needs
+proposed-requires : tie.Need-proposed-requires
+proposed-requires c κs = search needs
 
-pick-from-requires : tie.Need-pick-from-requires
-pick-from-requires c κs = search needs
+-- src/picks.rt:51:5
+pick-requires : tie.Need-pick-requires
+pick-requires c κs = search needs
 
+-- src/picks.rt:47:1
 returns : tie.Need-returns
-returns c = inverse-picked _ (c .pick-from .result) (c .before .before .pre) (c .before .inverse-set .ensures) (c .pick-from .ensures)
+returns c = rw (c .before .proposed .ensures) at (c .pick .ensures)
 
 pub pick-inverse-spec : {M : Type 1} → statement M
-pick-inverse-spec = tie.close (tie.spec inverse-set-requires pick-from-requires returns)
+pick-inverse-spec = tie.close (tie.spec proposed-requires pick-requires returns)

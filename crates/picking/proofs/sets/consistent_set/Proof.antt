@@ -1,18 +1,18 @@
 -- Arm by arm the operator's set, brought to the spot.
-use mathlib.Core.Logic.{⊎-elim}
 use mathlib.Core.Path.{refl}
+use native.Mathlib.Nat.{le-of-eq}
 use native.Mathlib.Omega.{arith}
 use lib.Bits.{and-comm}
 use borrow.Author.Needs.{needs}
 use Rattle.picking.proofs.ArithmeticLaws.{product-comm}
 use Rattle.picking.proofs.BoxLaws.{solves-all}
 use Rattle.picking.proofs.KindLaws.{makeup-left}
-use Rattle.picking.proofs.SpotLaws.{slot-at, wide-at, place, count-at, flag-target, joined-at, reach-one, both-reach, equal-reach, side-reach, reach-any, alike-some}
+use Rattle.picking.proofs.SpotLaws.{rule-at, slot-at, wide-at, place, count-at, flag-target, joined-at, extract-at, arm-one, reach-one, both-reach, equal-reach, side-reach, reach-any, alike-some}
 use Rattle.picking.proofs.sets.consistent_set.Statement.{statement}
 use Rattle.picking.proofs.sets.consistent_set.Tie as tie
 
-inverse-set-requires : tie.Need-inverse-set-requires
-inverse-set-requires c κs = search needs
+inverse-not-requires : tie.Need-inverse-not-requires
+inverse-not-requires c κs = search needs
 
 consistent-and-requires : tie.Need-consistent-and-requires
 consistent-and-requires c κs = search needs
@@ -46,13 +46,17 @@ cast-consistent-concat-2 c =
 consistent-concat-requires : tie.Need-consistent-concat-requires
 consistent-concat-requires c κs = let m = c .before .before in joined-at (m .before .pre) (m .match .keys7)
 
+inverse-extract-requires : tie.Need-inverse-extract-requires
+inverse-extract-requires c κs = extract-at (c .before .pre) (c .match .keys8)
+
 all-requires : tie.Need-all-requires
 all-requires c κs = search needs
 
 returns : tie.Need-returns
 returns c =
     let s = c .before .before in
-    reach-one (s .pre) (⊎-elim (count-at (s .pre .fair)) (count-at (s .pre .fair)) (c .before .match .keys1)) (c .inverse-set .ensures)
+    let k = c .before .match .keys1 in
+    reach-one (s .pre) (count-at (s .pre .fair) k) (arm-one (s .pre) k refl (le-of-eq (rule-at (s .pre .fair) k)) (c .inverse-not .ensures))
 
 returns-2 : tie.Need-returns-2
 returns-2 c = both-reach (c .before .before .pre) (c .before .match .keys2) refl (alike-some and-comm (c .before .before .args .i) (c .consistent-and .ensures))
@@ -77,13 +81,19 @@ returns-7 c = let m = c .before .before .before in side-reach (m .before .pre) (
 returns-8 : tie.Need-returns-8
 returns-8 c =
     let s = c .before .before in
+    let k = c .before .match .keys8 in
+    reach-one (s .pre) (count-at (s .pre .fair) k) (arm-one (s .pre) k refl (slot-at (s .pre .fair) k 0 (omega arith) .wide) (c .inverse-extract .ensures))
+
+returns-9 : tie.Need-returns-9
+returns-9 c =
+    let s = c .before .before in
     solves-all (wide-at (s .pre)) (c .all .ensures) (λ v l. reach-any (s .pre) v l (makeup-left _ (s .pre .fair .kind-from) (s .pre .fair .kind-below) (c .before .match .rest)))
 
 pub consistent-set-spec : {M : Type 1} → statement M
 consistent-set-spec =
     tie.close
     (tie.spec
-    inverse-set-requires
+    inverse-not-requires
     consistent-and-requires
     consistent-mul-requires
     consistent-shl-requires
@@ -93,6 +103,7 @@ consistent-set-spec =
     cast-consistent-concat
     cast-consistent-concat-2
     consistent-concat-requires
+    inverse-extract-requires
     all-requires
     returns
     returns-2
@@ -101,4 +112,5 @@ consistent-set-spec =
     returns-5
     returns-6
     returns-7
-    returns-8)
+    returns-8
+    returns-9)

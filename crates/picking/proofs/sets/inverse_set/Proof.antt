@@ -1,13 +1,13 @@
 -- Arm by arm the operator's set, brought to the spot.
 use mathlib.Core.Path.{refl}
-use native.Mathlib.Nat.{le-of-eq, le-trans}
+use native.Mathlib.Nat.{le-of-eq}
 use native.Mathlib.Omega.{arith}
 use lib.Bits.{and-comm, xor-comm}
 use borrow.Author.Needs.{needs}
 use Rattle.picking.proofs.ArithmeticLaws.{sum-comm, product-comm}
 use Rattle.picking.proofs.ComparisonLaws.{equal-comm}
 use Rattle.picking.proofs.KindLaws.{extract-left}
-use Rattle.picking.proofs.SpotLaws.{rule-at, slot-at, wide-at, place, both-lt, flag-target, joined-at, arm, arm-one, wide-arm, both-arm, side-lt, side-arm, alike-by}
+use Rattle.picking.proofs.SpotLaws.{rule-at, slot-at, wide-at, place, both-lt, flag-target, joined-at, extract-at, arm, arm-one, wide-arm, both-arm, side-lt, side-arm, alike-by}
 use Rattle.picking.proofs.sets.inverse_set.Statement.{statement}
 use Rattle.picking.proofs.sets.inverse_set.Tie as tie
 
@@ -71,8 +71,7 @@ inverse-concat-requires c κs =
 inverse-extract-requires : tie.Need-inverse-extract-requires
 inverse-extract-requires c κs =
     let s = c .before .before .before in
-    let k = extract-left _ (s .pre .fair .kind-from) (s .pre .fair .kind-below) (c .match .rest) in
-    (s .pre .fair .some, le-trans (rule-at (s .pre .fair) k) (slot-at (s .pre .fair) k 0 (omega arith) .wide), s .pre .target)
+    extract-at (s .pre) (extract-left _ (s .pre .fair .kind-from) (s .pre .fair .kind-below) (c .match .rest))
 
 returns : tie.Need-returns
 returns c =

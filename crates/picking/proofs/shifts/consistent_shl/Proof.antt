@@ -17,8 +17,8 @@ returns c =
 low-bit-requires : tie.Need-low-bit-requires
 low-bit-requires c κs = search needs
 
-add-t6 : tie.Need-add-t6
-add-t6 c = search needs
+add-t7 : tie.Need-add-t7
+add-t7 c = search needs
 
 returns-2 : tie.Need-returns-2
 returns-2 c =
@@ -45,7 +45,7 @@ consistent-shl-spec =
     all-requires
     returns
     low-bit-requires
-    add-t6
+    add-t7
     returns-2
     cast-range
     range-requires

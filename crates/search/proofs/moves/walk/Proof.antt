@@ -1,3 +1,4 @@
+-- `search::moves::walk` meets its contract.
 use native.Mathlib.Omega.{arith}
 use borrow.Author.Needs.{needs}
 use Rattle.search.proofs.Nodes.{node-there}

@@ -1,3 +1,4 @@
+-- `search::operands::held` meets its contract.
 use Rattle.search.specs.Problem.{three}
 use Rattle.search.specs.Inner.{heldIn}
 use Rattle.search.proofs.Nodes.{there-below}

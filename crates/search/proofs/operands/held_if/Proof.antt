@@ -1,3 +1,4 @@
+-- `search::operands::held_if` meets its contract.
 use borrow.Author.Needs.{needs}
 use Rattle.search.proofs.operands.held_if.Statement.{statement}
 use Rattle.search.proofs.operands.held_if.Tie as tie

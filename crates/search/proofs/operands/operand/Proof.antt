@@ -1,3 +1,4 @@
+-- `search::operands::operand` meets its contract.
 use Rattle.search.specs.Inner.{ids}
 use Rattle.search.proofs.Nodes.{at-third}
 use borrow.Author.Needs.{needs}

@@ -1,3 +1,4 @@
+-- `search::operands::operator` meets its contract.
 use Rattle.search.specs.Inner.{operatorIn}
 use borrow.Author.Needs.{needs}
 use Rattle.search.proofs.operands.operator.Statement.{statement}

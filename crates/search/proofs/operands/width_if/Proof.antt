@@ -1,3 +1,4 @@
+-- `search::operands::width_if` meets its contract.
 use borrow.Author.Needs.{needs}
 use Rattle.search.proofs.operands.width_if.Statement.{statement}
 use Rattle.search.proofs.operands.width_if.Tie as tie

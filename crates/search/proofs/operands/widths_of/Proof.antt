@@ -1,3 +1,4 @@
+-- `search::operands::widths_of` meets its contract.
 use Rattle.search.specs.Inner.{widthsIn}
 use borrow.Author.Needs.{needs}
 use Rattle.search.proofs.operands.widths_of.Statement.{statement}

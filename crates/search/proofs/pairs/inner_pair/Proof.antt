@@ -1,3 +1,4 @@
+-- `search::pairs::inner_pair` meets its contract.
 use mathlib.Core.Path.{_∙_}
 use borrow.Author.Needs.{needs}
 use Rattle.search.proofs.pairs.inner_pair.Statement.{statement}

@@ -1,3 +1,4 @@
+-- `search::spot::spot_of` meets its contract.
 use Rattle.search.specs.Inner.{spotIn}
 use borrow.Author.Needs.{needs}
 use Rattle.search.proofs.spot.spot_of.Statement.{statement}

@@ -1,3 +1,4 @@
+-- `search::starts::start_fault` meets its contract.
 use mathlib.Core.Path.{_≡_, refl}
 use mathlib.Core.List.{[]}
 use Rattle.problem.specs.FactsLaws.{accepted-facts, node-inside}

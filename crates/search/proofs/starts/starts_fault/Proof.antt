@@ -1,3 +1,4 @@
+-- `search::starts::starts_fault` meets its contract.
 use mathlib.Core.Path.{_≡_}
 use Prim.Native.Nat.{_≤_, _-_}
 use native.Mathlib.Omega.{arith}

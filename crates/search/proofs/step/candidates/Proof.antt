@@ -1,14 +1,11 @@
+-- `search::step::candidates` meets its contract.
 use mathlib.Core.Path.{_≡_, ap}
 use Prim.Native.Nat.{_≤_, _-_}
 use native.Mathlib.Omega.{arith}
 use borrow.Author.Needs.{needs}
 use Rattle.operators.specs.declared.table.Shape.{Shape}
 use Rattle.picking.specs.Spot.{positions}
-use Rattle.search.proofs.Steps.{room-two, Sorted, sorted-none, sorted-more, all-essential, all-open}
-use borrow.Author.Needs.{needs}
-use borrow.Author.Needs.{needs}
-use borrow.Author.Needs.{needs}
-use borrow.Author.Needs.{needs}
+use Rattle.search.proofs.Steps.{few-two, Sorted, sorted-none, sorted-more, all-essential, all-open}
 use Rattle.search.proofs.step.candidates.Statement.{statement}
 use Rattle.search.proofs.step.candidates.Tie as tie
 
@@ -24,21 +21,27 @@ shape-of-requires c κs = search needs
 cast-n : tie.Need-cast-n Inv-loop μ-loop
 cast-n c = search needs
 
+no-positions-requires : tie.Need-no-positions-requires Inv-loop μ-loop
+no-positions-requires c κs = search needs
+
+no-positions-requires-2 : tie.Need-no-positions-requires-2 Inv-loop μ-loop
+no-positions-requires-2 c κs = search needs
+
 loop-holds : tie.Need-loop-holds Inv-loop μ-loop
-loop-holds c = (ap (λ (x : Shape). x .operands) (c .before .shape-of .ensures), omega arith, sorted-none _ _)
+loop-holds c = (ap (λ (x : Shape). x .operands) (c .before .before .before .shape-of .ensures), omega arith, rw (c .before .no-positions .ensures, c .no-positions2 .ensures) (sorted-none _ _))
 
 essential-requires : tie.Need-essential-requires Inv-loop μ-loop
-essential-requires c κs = let st = c .before .before .before .before in
+essential-requires c κs = let st = c .before .before .before .before .before .before in
     record { fair = st .pre .fair (omega arith); position = omega arith; target = st .pre .target }
 
 open-at-requires : tie.Need-open-at-requires Inv-loop μ-loop
 open-at-requires c κs = search needs
 
 kept-requires : tie.Need-kept-requires Inv-loop μ-loop
-kept-requires c κs = room-two (c .before .before .before .before .before .before .args .s) (c .before .before .before .loop .inv .2 .room-es) (omega arith)
+kept-requires c κs = few-two (c .before .before .before .before .before .before .before .before .args .s) (c .before .before .before .loop .inv .2 .few-es) (omega arith)
 
 kept-requires-2 : tie.Need-kept-requires-2 Inv-loop μ-loop
-kept-requires-2 c κs = room-two (c .before .before .before .before .before .before .before .args .s) (c .before .before .before .before .loop .inv .2 .room-os) (omega arith)
+kept-requires-2 c κs = few-two (c .before .before .before .before .before .before .before .before .before .args .s) (c .before .before .before .before .loop .inv .2 .few-os) (omega arith)
 
 add-i : tie.Need-add-i Inv-loop μ-loop
 add-i c = search needs
@@ -68,6 +71,8 @@ candidates-spec =
     μ-loop
     shape-of-requires
     cast-n
+    no-positions-requires
+    no-positions-requires-2
     loop-holds
     essential-requires
     open-at-requires

@@ -1,3 +1,4 @@
+-- `search::step::held_at` meets its contract.
 use Rattle.search.proofs.Nodes.{at-third}
 use borrow.Author.Needs.{needs}
 use Rattle.search.proofs.step.held_at.Statement.{statement}

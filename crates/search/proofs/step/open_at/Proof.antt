@@ -1,3 +1,4 @@
+-- `search::step::open_at` meets its contract.
 use mathlib.Core.Path.{sym, _∙_}
 use Rattle.search.proofs.Steps.{decides-ne}
 use borrow.Author.Needs.{needs}

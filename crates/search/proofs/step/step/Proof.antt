@@ -1,7 +1,10 @@
+-- `search::step::step` meets its contract.
 use mathlib.Core.Path.{_≡_}
-use Prim.Native.Nat.{_<_}
+use Prim.Native.Nat.{_/_, _<_}
 use native.Mathlib.Omega.{arith}
-use Rattle.search.proofs.Steps.{step-none, step-lt, step-below, step-followed}
+use native.Mathlib.Nat.{mod-lt}
+use Rattle.picking.specs.Positions.{few-positions}
+use Rattle.search.proofs.Steps.{step-none, step-below, step-followed}
 use borrow.Author.Needs.{needs}
 use Rattle.search.proofs.step.step.Statement.{statement}
 use Rattle.search.proofs.step.step.Tie as tie
@@ -15,21 +18,42 @@ returns c = step-none _ _ _ _ (c .before .candidates .ensures) _ (omega arith)
 rem-k : tie.Need-rem-k
 rem-k c = search needs
 
-mul-i : tie.Need-mul-i
-mul-i c = omega (arith, step-lt _ _ (c .before .before .before .args .e) _ (c .before .before .candidates .ensures) (omega arith))
+sub-held-at : tie.Need-sub-held-at
+sub-held-at c = omega (arith, c .before .if1 .left)
 
-array-read-i : tie.Need-array-read-i
-array-read-i c = step-lt _ _ _ _ (c .before .before .candidates .ensures) (omega arith)
+sub-held-at-2 : tie.Need-sub-held-at-2
+sub-held-at-2 c = let h : 0 < c .before .before .candidates .result .count = omega (arith, c .before .if1 .left) in
+    omega (arith, mod-lt (c .before .before .before .args .e / 2) h)
+
+cast-held-at : tie.Need-cast-held-at
+cast-held-at c = omega (arith, c .before .before .candidates .ensures .few)
+
+held-at-requires : tie.Need-held-at-requires
+held-at-requires c κs = search needs
+
+cast-i : tie.Need-cast-i
+cast-i c = let s = c .before .before .before .before .args .s in
+    omega (arith, few-positions (s .kind), step-below _ _ (c .before .before .before .before .args .e) _ (c .before .before .before .candidates .ensures) _ (omega (arith, c .before .before .if1 .left)) (c .held-at .ensures))
 
 pick-at-requires : tie.Need-pick-at-requires
-pick-at-requires c κs = let st = c .before .before .before in
-    let below = step-below _ _ (st .args .e) _ (c .before .before .candidates .ensures) (omega arith) in
+pick-at-requires c κs = let st = c .before .before .before .before in
+    let below = step-below _ _ (st .args .e) _ (c .before .before .before .candidates .ensures) _ (omega (arith, c .before .before .if1 .left)) (c .held-at .ensures) in
     record { fair = st .pre .fair (omega (arith, below)); position = below; target = st .pre .target }
 
 returns-2 : tie.Need-returns-2
-returns-2 c = step-followed _ _ _ _ (c .before .before .before .candidates .ensures) _ _ (omega arith) (c .pick-at .ensures)
+returns-2 c = step-followed _ _ _ _ (c .before .before .before .before .candidates .ensures) _ _ _ (omega (arith, c .before .before .before .if1 .left)) (c .before .held-at .ensures) (c .pick-at .ensures)
 
 pub step-spec : {M : Type 1} → statement M
 step-spec =
     tie.close
-    (tie.spec candidates-requires returns rem-k mul-i array-read-i pick-at-requires returns-2)
+    (tie.spec
+    candidates-requires
+    returns
+    rem-k
+    sub-held-at
+    sub-held-at-2
+    cast-held-at
+    held-at-requires
+    cast-i
+    pick-at-requires
+    returns-2)

@@ -1,3 +1,4 @@
+-- `walumpeh::checks::wal_check` meets its contract.
 use mathlib.Core.Path.{sym, ap, _∙_}
 use Rattle.walumpeh.specs.Calls.{codeOf}
 use borrow.Author.Needs.{needs}

@@ -1,3 +1,4 @@
+-- `walumpeh::nodes::picked` meets its contract.
 use Rattle.walumpeh.proofs.Answers.{inverse-asked, consistent-asked}
 use borrow.Author.Needs.{needs}
 use Rattle.walumpeh.proofs.nodes.picked.Statement.{statement}

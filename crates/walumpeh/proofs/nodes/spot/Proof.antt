@@ -1,3 +1,4 @@
+-- `walumpeh::nodes::spot` meets its contract.
 use borrow.Author.Needs.{needs}
 use Rattle.walumpeh.proofs.nodes.spot.Statement.{statement}
 use Rattle.walumpeh.proofs.nodes.spot.Tie as tie

@@ -1,3 +1,4 @@
+-- `walumpeh::nodes::three` meets its contract.
 use borrow.Author.Needs.{needs}
 use Rattle.walumpeh.proofs.nodes.three.Statement.{statement}
 use Rattle.walumpeh.proofs.nodes.three.Tie as tie

@@ -1,3 +1,4 @@
+-- `walumpeh::nodes::wal_essential` meets its contract.
 use Rattle.walumpeh.proofs.Answers.{essential-code}
 use Rattle.words.specs.Decides.{decides-yes, decides-no}
 use Rattle.walumpeh.specs.Calls.{EssentialCode.refused}

@@ -1,3 +1,4 @@
+-- `walumpeh::nodes::wal_pick` meets its contract.
 use Rattle.walumpeh.proofs.Answers.{nothing-code, found-code}
 use Rattle.words.specs.Decides.{decides-yes, decides-no}
 use Rattle.walumpeh.specs.Calls.{PickCode.no-place, PickCode.refused}

@@ -1,3 +1,4 @@
+-- `walumpeh::nodes::word` meets its contract.
 use mathlib.Core.Path.{sym}
 use lib.ListN.{List·getD-eq-default}
 use borrow.Author.Needs.{needs}

@@ -1,3 +1,4 @@
+-- `walumpeh::offered::fits` meets its contract.
 use Rattle.walumpeh.proofs.Offers.{fits-law}
 use native.Mathlib.Omega.{arith}
 use borrow.Author.Needs.{needs}

@@ -1,3 +1,4 @@
+-- `walumpeh::offered::headed` meets its contract.
 use Rattle.walumpeh.proofs.Offers.{headed-law}
 use Rattle.walumpeh.proofs.offered.headed.Statement.{statement}
 use Rattle.walumpeh.proofs.offered.headed.Tie as tie

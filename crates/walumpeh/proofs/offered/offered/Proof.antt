@@ -1,3 +1,4 @@
+-- `walumpeh::offered::offered` meets its contract.
 use Rattle.walumpeh.proofs.Offers.{offered-law}
 use Rattle.words.specs.Decides.{decides-yes, decides-no}
 use Rattle.picking.specs.Positions.{few-positions}

@@ -1,3 +1,4 @@
+-- `walumpeh::offered::slot` meets its contract.
 use Rattle.walumpeh.proofs.Offers.{slot-law, slot-none}
 use Rattle.words.specs.Decides.{decides-yes, decides-no}
 use borrow.Author.Needs.{needs}

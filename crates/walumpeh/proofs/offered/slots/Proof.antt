@@ -1,3 +1,4 @@
+-- `walumpeh::offered::slots` meets its contract.
 use Rattle.walumpeh.proofs.Offers.{slots-law}
 use borrow.Author.Needs.{needs}
 use Rattle.walumpeh.proofs.offered.slots.Statement.{statement}

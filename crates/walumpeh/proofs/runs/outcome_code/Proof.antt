@@ -1,3 +1,4 @@
+-- `walumpeh::runs::outcome_code` meets its contract.
 use mathlib.Core.Path.{sym, ap}
 use Rattle.walumpeh.specs.Runs.{outcomeCode}
 use borrow.Author.Needs.{needs}

@@ -1,3 +1,4 @@
+-- `walumpeh::runs::report` meets its contract.
 use lib.ListN.{length-set}
 use native.Mathlib.Omega.{arith}
 use borrow.Author.Needs.{needs}

@@ -1,3 +1,4 @@
+-- `walumpeh::runs::wal_run` meets its contract.
 use Rattle.walumpeh.specs.Runs.{RunCode.no-room, RunCode.called}
 use borrow.Author.Needs.{needs}
 use Rattle.walumpeh.proofs.runs.wal_run.Statement.{statement}

@@ -4,23 +4,21 @@ use Prim.Native.Nat.{ℕ, _≤_, _-_}
 use native.Mathlib.Omega.{arith}
 use borrow.Author.Needs.{needs}
 use Rattle.words.specs.Pick.{FirstFrom}
-use Rattle.picking.specs.Boxes.{In, met, countOf, ChosenOf}
+use Rattle.picking.specs.Boxes.{In, met, ChosenOf}
 use Rattle.picking.specs.declared.boxes.Box.{Box}
-use Rattle.picking.proofs.BoxLaws.{none-yet, one-more}
-use Rattle.picking.proofs.boxes.first_in.Statement.{statement}
-use Rattle.picking.proofs.boxes.first_in.Tie as tie
+use Rattle.picking.specs.declared.unions.Union.the-variants.{Shifted}
+use Rattle.picking.proofs.UnionLaws.{none-yet, one-more}
+use Rattle.picking.proofs.unions.first_shifted.Statement.{statement}
+use Rattle.picking.proofs.unions.first_shifted.Tie as tie
 
 abbrev Inv-loop : tie.InvT-loop
-Inv-loop set lo hi p n best₀ j₀ best j = (j ≤ n) × (n ≡ countOf set) × FirstFrom (ChosenOf set j lo hi) p best
+Inv-loop by n lo hi p best₀ j₀ best j = (j ≤ n) × FirstFrom (ChosenOf (Shifted by j) lo hi) p best
 
 abbrev μ-loop : tie.MeasureT-loop
-μ-loop set lo hi p n best₀ j₀ best j = n - j
-
-count-requires : tie.Need-count-requires Inv-loop μ-loop
-count-requires c κs = search needs
+μ-loop by n lo hi p best₀ j₀ best j = n - j
 
 loop-holds : tie.Need-loop-holds Inv-loop μ-loop
-loop-holds c = (omega arith, c .count .ensures, none-yet (c .before .args .set) _ _ _)
+loop-holds c = (omega arith, none-yet (c .args .by) _ _ _)
 
 box-of-requires : tie.Need-box-of-requires Inv-loop μ-loop
 box-of-requires c κs = search needs
@@ -45,29 +43,27 @@ loop-again c =
     let f = c .before in
     let m = f .before in
     let l = m .before .before .before in
-    let s = l .before .before in
+    let s = l .before in
     let e : m .meet .result ≡ met _ (s .args .lo) (s .args .hi) = m .meet .ensures ∙ ap (λ (b : Box). met b (s .args .lo) (s .args .hi)) (m .before .box-of .ensures) in (
       omega arith,
-      l .loop .inv .1,
       rw (c .lesser-of .ensures)
-          (one-more (s .args .set) (s .args .lo) (s .args .hi) (s .args .p) (l .loop .j) (l .loop .best) (f .first-in-box .result) (l .loop .inv .2)
+          (one-more (s .args .by) (s .args .lo) (s .args .hi) (s .args .p) (l .loop .j) (l .loop .best) (f .first-in-box .result) (l .loop .inv .1)
           (subst (λ (b : Box). FirstFrom (In b) (s .args .p) (f .first-in-box .result)) e (f .first-in-box .ensures))),
     )
 
 returns : tie.Need-returns Inv-loop μ-loop
 returns c =
     let l = c .before in
-    let s = l .before .before in
-    let e : l .loop .j ≡ countOf (s .args .set) = omega (arith, c .loop-test .left, l .loop .inv .1) in
-    subst (λ (n : ℕ). FirstFrom (ChosenOf (s .args .set) n (s .args .lo) (s .args .hi)) (s .args .p) (l .loop .best)) e (l .loop .inv .2)
+    let s = l .before in
+    let e : l .loop .j ≡ s .args .n = omega (arith, c .loop-test .left) in
+    subst (λ (n : ℕ). FirstFrom (ChosenOf (Shifted (s .args .by) n) (s .args .lo) (s .args .hi)) (s .args .p) (l .loop .best)) e (l .loop .inv .1)
 
-pub first-in-spec : {M : Type 1} → statement M
-first-in-spec =
+pub first-shifted-spec : {M : Type 1} → statement M
+first-shifted-spec =
     tie.close
     (tie.spec
     Inv-loop
     μ-loop
-    count-requires
     loop-holds
     box-of-requires
     meet-requires

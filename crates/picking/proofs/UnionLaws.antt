@@ -1,0 +1,117 @@
+-- Laws of the sets that are no single box: what is found in them, from what is found among the values that agree.
+use mathlib.Core.Path.{_≡_, sym, subst}
+use mathlib.Core.Logic.{_⊎_, inl, inr}
+use Prim.Native.Nat.{ℕ, _+_, _-_, _*_, _/_, _%_, _^_, _≤_, _<_}
+use native.Mathlib.Nat.{le-trans, le-of-eq, lt-of-not-le, not-le-of-lt, not-suc-le-zero, mod-lt, mul-le-mul-right, pos-of-ne-zero, eq-or-lt-of-le}
+use native.Mathlib.Omega.{arith}
+use lib.Pow.{pow-pos, shr-lt, split}
+use Rattle.words.specs.declared.found.Found.{Found}
+use Rattle.words.specs.declared.found.Found.the-variants.{At, Nothing}
+use Rattle.words.specs.Agree.{Agrees, Within, agrees-of-within, lo-within, within-hi, within-le, within-refl, within-div, within-mod, within-join}
+use Rattle.words.specs.Meet.{lesser, lesser-first}
+use Rattle.words.specs.Narrow.{over, over-div, over-mod}
+use Rattle.words.specs.Pick.{Empty as NoMember, Least, FirstFrom, NoneFrom, first-same}
+use Rattle.picking.specs.declared.unions.Shifts.{Shifts}
+use Rattle.picking.specs.declared.unions.Shifts.the-variants.{Left, Right}
+use Rattle.picking.specs.declared.unions.Union.{Union}
+use Rattle.picking.specs.declared.unions.Union.the-variants.{Except, Low, Shifted}
+use Rattle.picking.specs.Boxes.{In, met, boxOf, FineOf, ChosenOf}
+use Rattle.picking.proofs.BoxLaws.{met-to, met-back}
+
+-- ---- found in a part of the values that agree
+
+-- nothing agrees from p on; the first that agrees is in; or it is not, and the next one is
+module _ (U : Union) {lo hi p : ℕ} where
+  pub none-in : NoneFrom (Agrees lo hi) p → NoneFrom (ChosenOf U lo hi) p
+  none-in n u m h = n u (m .agrees) h
+
+  pub first-is : {v : ℕ} → Least (Agrees lo hi) p v → ChosenOf U lo hi v → Least (ChosenOf U lo hi) p v
+  first-is a m = record { member = m; from = a .from; least = λ u k h. a .least u (k .agrees) h }
+
+  pub next-is : {v : ℕ} (r : Found) → Least (Agrees lo hi) p v → (ChosenOf U lo hi v → ⊥) → ((u : ℕ) → Least (Agrees lo hi) (v + 1) u → ChosenOf U lo hi u)
+      → FirstFrom (Agrees lo hi) (v + 1) r → FirstFrom (ChosenOf U lo hi) p r
+  next-is {v} r a out in-next = go r
+    where
+      past : (u : ℕ) → ChosenOf U lo hi u → p ≤ u → v + 1 ≤ u
+      past u m h =
+          let l = a .least u (m .agrees) h in
+          let n : v ≡ u → ⊥ = λ e. out (subst (ChosenOf U lo hi) (sym e) m) in
+          omega arith
+
+      go : (r : Found) → FirstFrom (Agrees lo hi) (v + 1) r → FirstFrom (ChosenOf U lo hi) p r
+      go (At u) b = record { member = in-next u b; from = le-trans (a .from) (le-trans (omega arith) (b .from)); least = λ x m h. b .least x (m .agrees) (past x m h) }
+      go Nothing b = λ u m h. b u (m .agrees) (past u m h)
+
+-- ---- all but one
+pub except-next : {lo hi v s : ℕ} → v ≡ s → (u : ℕ) → Least (Agrees lo hi) (v + 1) u → ChosenOf (Except s) lo hi u
+except-next e u b = record { agrees = b .member; has = λ d. let h = b .from in omega arith }
+
+-- ---- some of the m low bits set
+pub low-none : (lo hi m : ℕ) → hi % 2 ^ m ≡ 0 → NoMember (ChosenOf (Low m) lo hi)
+low-none lo hi m e u g = g .has (omega (arith, within-le (within-mod m (within-hi (g .agrees)))))
+
+module _ (lo hi m p v : ℕ) (ordered : Within lo hi) (some : hi % 2 ^ m ≡ 0 → ⊥) (at : Least (Agrees lo hi) p v) (bare : v % 2 ^ m ≡ 0) where
+  -- v with hi's low bits: it agrees, and lies above v by less than 2 ^ m
+  abbrev z : ℕ
+  z = over m v (hi % 2 ^ m)
+
+  low-fits : hi % 2 ^ m < 2 ^ m
+  low-fits = mod-lt hi (pow-pos m)
+
+  z-agrees : Agrees lo hi z
+  z-agrees =
+      agrees-of-within
+      (within-join m lo z (rw (over-div m v (hi % 2 ^ m) low-fits) (within-div m (lo-within (at .member)))) (rw (over-mod m v (hi % 2 ^ m) low-fits) (within-mod m ordered)))
+      (within-join m z hi (rw (over-div m v (hi % 2 ^ m) low-fits) (within-div m (within-hi (at .member)))) (rw (over-mod m v (hi % 2 ^ m) low-fits) (within-refl (hi % 2 ^ m))))
+
+  z-is : z ≡ v + hi % 2 ^ m
+  unfolding over
+  z-is = omega (arith, split v m)
+
+  z-above : v + 1 ≤ z
+  z-above = let h : 0 < hi % 2 ^ m = pos-of-ne-zero some in omega (arith, z-is)
+
+  -- so the next value that agrees is no further than z, and has low bits set
+  next-some : (u : ℕ) → v + 1 ≤ u → u ≤ z → u % 2 ^ m ≡ 0 → ⊥
+  next-some u l h e =
+      let a : u / 2 ^ m * 2 ^ m ≡ u = omega (arith, split u m) in
+      let b : v / 2 ^ m * 2 ^ m ≡ v = omega (arith, split v m) in
+      let c : v / 2 ^ m < u / 2 ^ m = lt-of-not-le (λ (k : u / 2 ^ m ≤ v / 2 ^ m). not-le-of-lt (le-trans (le-of-eq (omega arith)) l) (le-trans (le-of-eq (sym a)) (le-trans (mul-le-mul-right (2 ^ m) k) (le-of-eq b)))) in
+      omega (arith, mul-le-mul-right (2 ^ m) c, z-is, low-fits)
+
+  pub low-next : (u : ℕ) → Least (Agrees lo hi) (v + 1) u → ChosenOf (Low m) lo hi u
+  low-next u b = record { agrees = b .member; has = next-some u (b .from) (b .least z z-agrees z-above) }
+
+-- ---- what shifts take to their target
+
+-- no box yet, and one box more
+pub none-yet : (S : Shifts) (lo hi p : ℕ) → NoneFrom (ChosenOf (Shifted S 0) lo hi) p
+none-yet S lo hi p v m h = not-suc-le-zero (m .has .below)
+
+pub one-more : (S : Shifts) (lo hi p j : ℕ) (a b : Found) → FirstFrom (ChosenOf (Shifted S j) lo hi) p a → FirstFrom (In (met (boxOf S j) lo hi)) p b → FirstFrom (ChosenOf (Shifted S (j + 1)) lo hi) p (lesser a b)
+one-more S lo hi p j a b f g =
+    first-same (λ v. ChosenOf (Shifted S j) lo hi v ⊎ In (met (boxOf S j) lo hi) v) (ChosenOf (Shifted S (j + 1)) lo hi) to back p (lesser a b)
+    (lesser-first (ChosenOf (Shifted S j) lo hi) (In (met (boxOf S j) lo hi)) p a b f g)
+  where
+    to : (v : ℕ) → ChosenOf (Shifted S j) lo hi v ⊎ In (met (boxOf S j) lo hi) v → ChosenOf (Shifted S (j + 1)) lo hi v
+    to v (inl m) = record { agrees = m .agrees; has = record { at = m .has .at; below = let h = m .has .below in omega arith; inside = m .has .inside } }
+    to v (inr m) = let k = met-to (boxOf S j) lo hi v m in record { agrees = k .0; has = record { at = j; below = omega arith; inside = k .1 } }
+
+    side : (v i : ℕ) → Agrees lo hi v → In (boxOf S i) v → (i ≡ j) ⊎ (i < j) → ChosenOf (Shifted S j) lo hi v ⊎ In (met (boxOf S j) lo hi) v
+    side v i g m (inl e) = inr (met-back (boxOf S j) lo hi v g (rw e at m))
+    side v i g m (inr l) = inl (record { agrees = g; has = record { at = i; below = l; inside = m } })
+
+    back : (v : ℕ) → ChosenOf (Shifted S (j + 1)) lo hi v → ChosenOf (Shifted S j) lo hi v ⊎ In (met (boxOf S j) lo hi) v
+    back v m = side v (m .has .at) (m .agrees) (m .has .inside) (eq-or-lt-of-le (let h = m .has .below in omega arith))
+
+-- what the boxes that code takes apart are
+pub left-short : (S : Shifts) (t w n j : ℕ) → S ≡ Left t w → FineOf (Shifted S n) → j < n → (j < w) × (w ≤ 64) × (t / 2 ^ j < 2 ^ (w - j))
+left-short S t w n j e f b =
+    let a : (n ≤ w) × (w ≤ 64) × (t < 2 ^ w) = rw e at f in
+    let k : w - j + j ≡ w = omega arith in
+    (omega arith, a .1, shr-lt (w - j) j (subst (λ (i : ℕ). t < 2 ^ i) (sym k) (a .2)))
+
+pub right-fits : (S : Shifts) (t n j : ℕ) → S ≡ Right t → FineOf (Shifted S n) → j < n → (j < 64) × (t * 2 ^ j + 2 ^ j ≤ 2 ^ 64)
+right-fits S t n j e f b =
+    let a : (n ≤ 64) × ((j : ℕ) → j < n → t * 2 ^ j + 2 ^ j ≤ 2 ^ 64) = rw e at f in
+    (omega arith, a .1 j b)

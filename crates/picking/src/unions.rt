@@ -1,0 +1,117 @@
+// Sets of words that are no single box, and the search in one.
+use crate::boxes::Box;
+use crate::boxes::first_in_box;
+use crate::boxes::low_are;
+use crate::boxes::meet;
+use crate::boxes::shifted;
+use words::Found;
+ghost use mathlib.Core.Path.{_≡_};
+ghost use Prim.Native.Nat.{_+_, _≤_, _<_};
+ghost use Rattle.words.specs.Agree.{Agrees, Within};
+ghost use Rattle.words.specs.Pick.{FirstFrom, Picked};
+ghost use Rattle.picking.specs.Boxes.{boxOf, FineOf, ChosenOf};
+
+// The words that are to be shifted to t: to the left, modulo 2^w (t, w), or to the right (t).
+pub(crate) enum Shifts {
+    Left(u64, u32),
+    Right(u64),
+}
+
+pub(crate) enum Union {
+    // All but one value.
+    Except(u64),
+    // Some of the m low bits set.
+    Low(u32),
+    // What shifts by 0 to n - 1 take to their target, which has room for them.
+    Shifted(Shifts, u32),
+}
+
+// What a shift by j takes to the target.
+fn box_of(by: Shifts, n: u32, j: u32) -> Box
+    requires { ⌜ FineOf (Union.Shifted by n) × (j < n) ⌝ }
+    ensures { λ r. ⌜ r ≡ boxOf by j ⌝ }
+{
+    match by {
+        Shifts::Left(t, w) => low_are(w - j, t >> j),
+        Shifts::Right(t) => shifted(t, j),
+    }
+}
+
+// The least value from p on that agrees with lo, hi and is shifted to the target: box by box, with the least so far.
+fn first_shifted(by: Shifts, n: u32, lo: u64, hi: u64, p: u64) -> Found
+    requires { ⌜ FineOf (Union.Shifted by n) ⌝ }
+    ensures { λ r. ⌜ FirstFrom (ChosenOf (Union.Shifted by n) lo hi) p r ⌝ }
+{
+    let mut best = Found::Nothing;
+    let mut j = 0u32;
+    while j < n {
+        best = words::lesser_of(best, first_in_box(meet(box_of(by, n, j), lo, hi), p));
+        j += 1;
+    }
+    best
+}
+
+// The least value above v that agrees with lo, hi.
+fn first_after(lo: u64, hi: u64, v: u64) -> Found
+    requires { ⌜ Within lo hi ⌝ }
+    ensures { λ r. ⌜ FirstFrom (Agrees lo hi) (v + 1) r ⌝ }
+{
+    if v == u64::MAX {
+        return Found::Nothing;
+    }
+    words::first_agreeing(lo, hi, v + 1)
+}
+
+// Where s is in the way it is the one after it.
+fn first_except(s: u64, lo: u64, hi: u64, p: u64) -> Found
+    requires { ⌜ Within lo hi ⌝ }
+    ensures { λ r. ⌜ FirstFrom (ChosenOf (Union.Except s) lo hi) p r ⌝ }
+{
+    let Found::At(v) = words::first_agreeing(lo, hi, p) else {
+        return Found::Nothing;
+    };
+    if v != s {
+        return Found::At(v);
+    }
+    first_after(lo, hi, v)
+}
+
+// Where hi has some of the m low bits and the first value that agrees has none, the one after it has some.
+fn first_low(m: u32, lo: u64, hi: u64, p: u64) -> Found
+    requires { ⌜ (m ≤ 64) × Within lo hi ⌝ }
+    ensures { λ r. ⌜ FirstFrom (ChosenOf (Union.Low m) lo hi) p r ⌝ }
+{
+    if words::cut(hi, m) == 0 {
+        return Found::Nothing;
+    }
+    let Found::At(v) = words::first_agreeing(lo, hi, p) else {
+        return Found::Nothing;
+    };
+    if words::cut(v, m) != 0 {
+        return Found::At(v);
+    }
+    first_after(lo, hi, v)
+}
+
+// The least value from p on that agrees with lo, hi and is in the set.
+fn first_in(set: Union, lo: u64, hi: u64, p: u64) -> Found
+    requires { ⌜ FineOf set × Within lo hi ⌝ }
+    ensures { λ r. ⌜ FirstFrom (ChosenOf set lo hi) p r ⌝ }
+{
+    match set {
+        Union::Except(s) => first_except(s, lo, hi, p),
+        Union::Low(m) => first_low(m, lo, hi, p),
+        Union::Shifted(by, n) => first_shifted(by, n, lo, hi, p),
+    }
+}
+
+// The pick from the values that agree with lo, hi and are in the set.
+pub(crate) fn pick_in_union(set: Union, lo: u64, hi: u64, p: u64) -> Found
+    requires { ⌜ FineOf set × Within lo hi ⌝ }
+    ensures { λ r. ⌜ Picked (ChosenOf set lo hi) p r ⌝ }
+{
+    let Found::At(v) = first_in(set, lo, hi, p) else {
+        return first_in(set, lo, hi, 0);
+    };
+    Found::At(v)
+}
