@@ -10,16 +10,19 @@ wrong ARCHIVE FOLDER
     writes into FOLDER a copy of the library's archive for each operator that is changed in the
     compiled evaluation: a below b to a at most b, xor to or";
 
-/// An operator's instruction: its leading bytes, and those of the one that takes its place.
+/// An operator's instruction: what its first byte may be, its second, and the byte that takes its place.
 struct Change {
     name: &'static str,
-    from: &'static [u8],
-    to: &'static [u8],
+    first: std::ops::RangeInclusive<u8>,
+    second: u8,
+    wrong: u8,
 }
 
-const CHANGES: [Change; 2] = [
-    Change { name: "below-as-at-most", from: &[0x0f, 0x92], to: &[0x0f, 0x96] }, // setb, setbe
-    Change { name: "xor-as-or", from: &[0x48, 0x31], to: &[0x48, 0x09] },        // of 64-bit registers
+/// setb and setbe; xor and or of 64 bits, from a register and from memory.
+const CHANGES: [Change; 3] = [
+    Change { name: "below-as-at-most", first: 0x0f..=0x0f, second: 0x92, wrong: 0x96 },
+    Change { name: "xor-as-or", first: 0x48..=0x4f, second: 0x31, wrong: 0x09 },
+    Change { name: "xor-as-or", first: 0x48..=0x4f, second: 0x33, wrong: 0x0b },
 ];
 
 fn main() -> std::process::ExitCode {
@@ -28,23 +31,33 @@ fn main() -> std::process::ExitCode {
         let bytes = std::fs::read(&archive).map_err(|fault| format!("{archive}: {fault}"))?;
         let code = evaluation(&bytes).ok_or(format!("{archive}: no section has the evaluation's code"))?;
         std::fs::create_dir_all(&folder).map_err(|fault| format!("{folder}: {fault}"))?;
-        CHANGES.iter().try_for_each(|change| write(&bytes, &code, change, Path::new(&folder)))
+        let written = CHANGES.iter().map(|change| write(&bytes, &code, change, Path::new(&folder)));
+        let written = written.collect::<Result<Vec<bool>, Fault>>()?;
+        match written.iter().filter(|&&is| is).count() {
+            0 => Err(format!("{archive}: the evaluation has none of the instructions that are changed")),
+            _ => Ok(()),
+        }
     })
 }
 
-/// Writes the archive with a change at its first place in the code.
-fn write(bytes: &[u8], code: &[std::ops::Range<usize>], change: &Change, folder: &Path) -> Result<(), Fault> {
-    let register_operands = 0xc0; // the next byte names two registers, and no place in memory
-    let place = code.iter().cloned().flatten().find(|&at| {
-        bytes[at..].starts_with(change.from) && bytes.get(at + 2).is_some_and(|&next| next >= register_operands)
-    });
-    let place = place.ok_or(format!("{}: the evaluation has no such instruction", change.name))?;
+/// Writes the archive with a change at its first place in the code, if it has one.
+fn write(
+    bytes: &[u8],
+    code: &[std::ops::Range<usize>],
+    change: &Change,
+    folder: &Path,
+) -> Result<bool, Fault> {
+    let is_there =
+        |&at: &usize| change.first.contains(&bytes[at]) && bytes.get(at + 1) == Some(&change.second);
+    let Some(place) = code.iter().cloned().flatten().find(is_there) else {
+        return Ok(false);
+    };
     let mut wrong = bytes.to_vec();
-    wrong[place..place + change.to.len()].copy_from_slice(change.to);
+    wrong[place + 1] = change.wrong;
     let file = folder.join(format!("lib{}.a", change.name));
     std::fs::write(&file, wrong).map_err(|fault| format!("{}: {fault}", file.display()))?;
     println!("{}", file.display());
-    Ok(())
+    Ok(true)
 }
 
 /// Where the archive has the compiled evaluation: the sections of its object files that are named after
@@ -69,7 +82,8 @@ fn code_of(object: &[u8]) -> Option<Vec<std::ops::Range<usize>>> {
         let field = object.get(at..at + bytes)?;
         Some(field.iter().rev().fold(0, |n, &byte| n << 8 | usize::from(byte)))
     };
-    let (sections, entry, count, names) = (number(0x28, 8)?, number(0x3a, 2)?, number(0x3c, 2)?, number(0x3e, 2)?);
+    let (sections, entry, count, names) =
+        (number(0x28, 8)?, number(0x3a, 2)?, number(0x3c, 2)?, number(0x3e, 2)?);
     let strings = number(sections + names * entry + 0x18, 8)?;
     let mut found = Vec::new();
     for section in (0..count).map(|i| sections + i * entry) {
