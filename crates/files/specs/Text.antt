@@ -11,10 +11,10 @@ use lib.ListN.{getD}
 use Rattle.problem.specs.declared.Refusal.{Refusal}
 use Rattle.problem.specs.Layout.{nodeCount, nodeAt}
 use Rattle.search.specs.declared.Verdict.{Verdict}
-use Rattle.search.specs.declared.Verdict.the-variants.{Model, Spent, Ended, Closed}
 use Rattle.search.specs.declared.Outcome.{Outcome}
 use Rattle.search.specs.declared.Outcome.the-variants.{Refused, Settled}
 use Rattle.search.specs.declared.Answer.{Answer}
+use Rattle.search.specs.Answers.{name}
 
 -- the bytes of a text, whose characters are all ASCII
 unfoldable pub ascii : String → List ℕ
@@ -40,10 +40,7 @@ labelled label n = ascii label ++ decimal n
 
 -- "names model, spent, ended, closed"
 unfoldable pub nameOf : Verdict → List ℕ
-nameOf Model = ascii "model"
-nameOf Spent = ascii "spent"
-nameOf Ended = ascii "ended"
-nameOf Closed = ascii "closed"
+nameOf v = ascii (name v)
 
 -- "`refused NUMBER at PLACE`"
 unfoldable pub refusedLine : Refusal → List ℕ

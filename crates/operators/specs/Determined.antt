@@ -17,6 +17,9 @@ equal p q = p ∙ sym q
 pub shape-of-determined : (kind : ℕ) (r s : Shape) → r ≡ shapeOf kind → s ≡ shapeOf kind → r ≡ s
 shape-of-determined kind r s = equal
 
+pub operand-count-determined : (kind r s : ℕ) → r ≡ shapeOf kind .operands → s ≡ shapeOf kind .operands → r ≡ s
+operand-count-determined kind r s = equal
+
 pub rule-holds-determined : (rule : Rule) (w wa wb wc b : ℕ) (r s : Bool) → r ≡ ruleHolds rule w wa wb wc b → s ≡ ruleHolds rule w wa wb wc b → r ≡ s
 rule-holds-determined rule w wa wb wc b r s = equal
 

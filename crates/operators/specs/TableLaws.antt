@@ -1,12 +1,13 @@
 -- Laws of the table of kinds: its rows as a list, and the width rule as a test and as a fact.
 use mathlib.Core.Path.{_≡_, refl, sym, ap}
-use mathlib.Core.Bool.{Bool, true, false, _&&_, false≢true}
+use mathlib.Core.Bool.{Bool, true, false, _&&_, _||_, false≢true}
 use mathlib.Core.List.{List, [], _∷_}
 use Prim.Native.Nat.{ℕ, zero, suc, _≤_, _<_}
-use native.Mathlib.Nat.{not-suc-le-zero, le-of-suc-le-suc}
-use lib.Dec.{eqb}
+use native.Mathlib.Nat.{not-suc-le-zero, le-of-suc-le-suc, not-le-of-lt}
+use lib.Dec.{T, eqb, eqb→eq, ltb, ltb→lt}
 use lib.ListN.{length, getD, List·getD-eq-default}
 use borrow.Author.Tests.{eqb-true, leb-true, eq-eqb, le-leb}
+use Rattle.words.specs.Cases.{every, every-at}
 use Rattle.operators.specs.declared.table.Rule.{Rule}
 use Rattle.operators.specs.declared.table.Rule.the-variants.{Free, One, Both, Equal, Choice, Sum, Part}
 use Rattle.operators.specs.declared.table.Shape.{Shape}
@@ -27,6 +28,23 @@ row-is d k h = row-of d kinds k h
 
 pub row-none : (k : ℕ) → 14 ≤ k → shape variable ≡ shapeOf k
 row-none k h = ap shape (sym (List·getD-eq-default kinds variable h))
+
+pub or-right : (a b : Bool) → T (a || b) → (T a → ⊥) → T b
+or-right true b h f = absurd (f tt)
+or-right false b h f = h
+
+-- the kinds from lo up to hi have n operands: one computed test of them
+pub counted :
+    (lo hi n : ℕ)
+    → T (every hi (λ x. ltb x lo || eqb n (shapeOf x .operands)))
+    → (k : ℕ)
+    → lo ≤ k
+    → k < hi
+    → n ≡ shapeOf k .operands
+counted lo hi n t k l u =
+    eqb→eq n (shapeOf k .operands)
+    (or-right (ltb k lo) (eqb n (shapeOf k .operands)) (every-at hi (λ x. ltb x lo || eqb n (shapeOf x .operands)) t k u)
+    (λ h. not-le-of-lt (ltb→lt k lo h) l))
 
 -- what holds of each kind of a list and its number
 abbrev pub AllFrom : (ℕ → Kind → Type 0) → List Kind → Type 0

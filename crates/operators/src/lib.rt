@@ -12,5 +12,6 @@ pub use meaning::part;
 pub use meaning::value;
 pub use table::Rule;
 pub use table::Shape;
+pub use table::operand_count;
 pub use table::rule_holds;
 pub use table::shape_of;

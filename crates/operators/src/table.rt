@@ -124,6 +124,19 @@ pub fn shape_of(kind: u8) -> Shape
     }
 }
 
+// The operand count of a kind, decided by `match`: the table is made anew wherever it is read, which a search pays at each
+// step and a check does not notice.
+pub fn operand_count(kind: u8) -> u8
+    ensures { λ r. ⌜ r ≡ shapeOf kind .operands ⌝ }
+{
+    match kind {
+        2 | 13 => 1,
+        11 => 3,
+        3..=12 => 2,
+        _ => 0,
+    }
+}
+
 // Whether a width rule holds, of the node's width w, its operands' widths and its field b.
 pub fn rule_holds(rule: Rule, w: u8, wa: u8, wb: u8, wc: u8, b: u16) -> bool
     ensures { λ r. ⌜ r ≡ ruleHolds rule w wa wb wc b ⌝ }

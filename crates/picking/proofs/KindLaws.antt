@@ -9,6 +9,7 @@ use mir.Val.{hasKey}
 use types.Run.{OneOf, hit}
 use Rattle.words.specs.Cases.{every, every-at}
 use Rattle.operators.specs.Table.{shapeOf}
+use Rattle.operators.specs.TableLaws.{or-right}
 
 -- n is none of the keys of some arms, the last arm first, as a match tells it to its last arm
 abbrev pub Without : List (List ℕ) → ℕ → Type 0
@@ -23,10 +24,6 @@ keyed (ks ∷ arms) n = hasKey ks n || keyed arms n
 abbrev pub singles : ℕ → ℕ → List (List ℕ)
 singles m zero = []
 singles m (suc k) = ((m + k) ∷ []) ∷ singles m k
-
-or-right : (a b : Bool) → T (a || b) → (T a → ⊥) → T b
-or-right true b h f = absurd (f tt)
-or-right false b h f = h
 
 not-keyed : (arms : List (List ℕ)) (n : ℕ) → Without arms n → T (keyed arms n) → ⊥
 not-keyed [] n w h = h

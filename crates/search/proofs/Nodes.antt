@@ -8,7 +8,6 @@ use native.Mathlib.Decide.{decLt}
 use lib.Dec.{T, ltb, leb, leb→le}
 use lib.ListN.{length, getD}
 use borrow.Author.Tests.{ltb-true}
-use Rattle.operators.specs.declared.table.Shape.{Shape}
 use Rattle.operators.specs.declared.table.Rule.{Rule}
 use Rattle.operators.specs.declared.table.Rule.the-variants.{Free, One, Both, Equal, Choice, Sum, Part}
 use Rattle.operators.specs.Table.{Kind, kinds, kindOf, shape, shapeOf, RuleMet}
@@ -36,13 +35,13 @@ use Rattle.search.specs.GoodLaws.{good-of}
 
 -- a position that the code's test finds there
 pub there-below :
-    (n : Node) {k : ℕ} {sh : Shape}
+    (n : Node) {k c : ℕ}
     → OperandsBelow n k
-    → sh ≡ shapeOf (n .kind)
+    → c ≡ shapeOf (n .kind) .operands
     → (i : ℕ)
-    → ltb i (sh .operands) ≡ true
+    → ltb i c ≡ true
     → at (ids n) i < k
-there-below n {sh = sh} p e i t = p i (rw e at (ltb-true i (sh .operands) t))
+there-below n {c = c} p e i t = p i (rw e at (ltb-true i c t))
 
 -- a position that is neither the first nor the second
 pub at-third : (x : Three) (i : ℕ) → (i ≡ 0 → ⊥) → (i ≡ 1 → ⊥) → x .c ≡ at x i
@@ -91,24 +90,29 @@ no-second k n = either-kind (λ o. without-b (shape o .rule)) (λ o. leb 2 (shap
 -- ---- node i of an accepted problem
 
 module _ (s vs : List ℕ) (i : ℕ) where
+  -- a field that is 0 where the kind has not the position j is the id of a node
+  id-inside :
+      {x : ℕ}
+      → Evaluable s vs i
+      → (j : ℕ)
+      → T (passes (λ o. leb (shape o .fields) j || leb (suc j) (shape o .operands)) kinds)
+      → (j < shapeOf (nodeAt s i .kind) .operands → x < i)
+      → (shapeOf (nodeAt s i .kind) .fields ≤ j → x ≡ 0)
+      → x < problem s .nodes
+  id-inside v j t below unused =
+      elim (decLt j (shapeOf (nodeAt s i .kind) .operands)) [
+        | yes h ↦ omega (arith, below h, v .inside)
+        | no x ↦ omega (arith, unused (no-field j (nodeAt s i .kind) t x), v .inside)
+      ]
+
   -- its fields a and c are ids of nodes
   pub first-inside : Evaluable s vs i → nodeAt s i .a < problem s .nodes
   unfolding problem
-  first-inside v =
-      let f = accepted-facts s (v .accepted) .node i (v .inside) in
-      elim (decLt 0 (shapeOf (nodeAt s i .kind) .operands)) [
-        | yes h ↦ omega (arith, f .a-below h, v .inside)
-        | no x ↦ omega (arith, f .a-unused (no-field 0 (nodeAt s i .kind) tt x), v .inside)
-      ]
+  first-inside v = let f = accepted-facts s (v .accepted) .node i (v .inside) in id-inside v 0 tt (f .a-below) (f .a-unused)
 
   pub third-inside : Evaluable s vs i → nodeAt s i .c < problem s .nodes
   unfolding problem
-  third-inside v =
-      let f = accepted-facts s (v .accepted) .node i (v .inside) in
-      elim (decLt 2 (shapeOf (nodeAt s i .kind) .operands)) [
-        | yes h ↦ omega (arith, f .c-below h, v .inside)
-        | no x ↦ omega (arith, f .c-unused (no-field 2 (nodeAt s i .kind) tt x), v .inside)
-      ]
+  third-inside v = let f = accepted-facts s (v .accepted) .node i (v .inside) in id-inside v 2 tt (f .c-below) (f .c-unused)
 
   -- read with b as its field b
   module _ (b : ℕ) (v : Evaluable s vs i) (b-same : nodeAt s i .b < i → b ≡ nodeAt s i .b) where

@@ -11,9 +11,11 @@ use lib.Seq.{ext-getD}
 use Rattle.problem.specs.declared.Refusal.{Refusal}
 use Rattle.problem.specs.declared.Checked.the-variants.{Accepted, Refused}
 use Rattle.problem.specs.Layout.{nodeCount}
+use Rattle.problem.specs.Refusals.{numberOf as refusalNumber, placeOf as refusalPlace}
 use Rattle.search.specs.declared.Verdict.{Verdict}
 use Rattle.search.specs.declared.Outcome.{Outcome}
 use Rattle.search.specs.declared.Answer.{Answer}
+use Rattle.search.specs.Answers.{numberOf, placeOf}
 use Rattle.search.specs.Problem.{Prob, problem, Variable, evaluate}
 use Rattle.search.specs.Run.{AllOne, answer, Whole, Whole.closed, Whole.searched}
 use Rattle.search.specs.Call.{refusals, refused, Called, Called.refuses, Called.runs}
@@ -66,24 +68,27 @@ pub record Settled (a : Answer) : Type 0 where
   pub verdict : Verdict
   pub is : a .outcome ≡ Outcome.Settled verdict
 
--- a refusal is given exactly if the table gives it, with its number and place; it "has all counts 0 and changes no lent
--- place"; "None is given otherwise."
+-- the answer's number and place are those that the table gives; a refusal "has all counts 0 and changes no lent place";
+-- "None is given otherwise."
 pub record Demand1 (s start out : List ℕ) (a : Answer) : Type 0 where
-  pub refusal : (r : Refusal) → (a .outcome ≡ Outcome.Refused r) ↔ (refusals s start ≡ Refused r)
+  pub number : numberOf (a .outcome) ≡ refusalNumber (refusals s start)
+  pub place : placeOf (a .outcome) ≡ refusalPlace (refusals s start)
   pub none-otherwise : Settled a ↔ (refusals s start ≡ Accepted)
   pub silent : (r : Refusal) → a .outcome ≡ Outcome.Refused r → (a ≡ refused r) × (out ≡ start)
 
 pub demand-1 : {s start ws : List ℕ} {B : ℕ} {out : List ℕ} {a : Answer} → Called s start ws B out a → Demand1 s start out a
 demand-1 (refuses r e) =
     record {
-      refusal = λ r′. (λ q. e ∙ ap Refused (same-outcome q), λ q. ap Outcome.Refused (same-refusal e q));
+      number = sym (ap refusalNumber e);
+      place = sym (ap refusalPlace e);
       none-otherwise = (λ t. absurd (clash refl (t .is)), λ q. absurd (not-both q e));
       silent = λ r′ q. (ap refused (same-outcome q), refl);
     }
 demand-1 {s} {start} (runs e w) =
     let c = concluded s start e w in
     record {
-      refusal = λ r. (λ q. absurd (clash q (c .settled)), λ q. absurd (not-both e q));
+      number = ap numberOf (c .settled) ∙ sym (ap refusalNumber e);
+      place = ap placeOf (c .settled) ∙ sym (ap refusalPlace e);
       none-otherwise = (λ _. e, λ _. record { verdict = c .verdict; is = c .settled });
       silent = λ r q. absurd (clash q (c .settled));
     }

@@ -1,9 +1,10 @@
--- What a reader must believe of the run: Problem, Step, Run, Call, Reach and Good, in this order. What is promised of it:
+-- What a reader must believe of the run: Problem, Step, Run, Call, Answers, Reach and Good, in this order. What is promised of it:
 -- Demands and Determined. The other modules are laws.
 pub mod Problem
 pub mod Step
 pub mod Run
 pub mod Call
+pub mod Answers
 pub mod Reach
 pub mod Good
 pub mod Demands

@@ -9,7 +9,7 @@ ghost use Rattle.problem.specs.Layout.{widthAt};
 ghost use Rattle.search.specs.Problem.{oneOf};
 ghost use Rattle.search.specs.Inner.{ids, OperandsBelow, heldIn, widthsIn, operatorIn};
 use operators::Op;
-use operators::shape_of;
+use operators::operand_count;
 use picking::Three;
 use problem::Node;
 use problem::width_at;
@@ -32,7 +32,7 @@ fn width_if(bytes: &[u8], id: u16, there: bool) -> u8
 pub(crate) fn widths_of(bytes: &[u8], n: Node) -> Widths
     ensures { λ r. ⌜ r ≡ widthsIn (now (bytes .entry)) n ⌝ }
 {
-    let count = shape_of(n.kind).operands;
+    let count = operand_count(n.kind);
     Widths {
         a: width_if(bytes, n.a, 0 < count),
         b: width_if(bytes, n.b, 1 < count),
@@ -67,7 +67,7 @@ pub(crate) fn held(list: &[u64], n: Node) -> Three
     requires { ⌜ OperandsBelow n (length (now list)) ⌝ }
     ensures { λ r. ⌜ r ≡ heldIn (now (list .entry)) n ⌝ }
 {
-    let count = shape_of(n.kind).operands;
+    let count = operand_count(n.kind);
     Three {
         a: held_if(list, n.a, 0 < count),
         b: held_if(list, n.b, 1 < count),

@@ -5,7 +5,7 @@ ghost use Rattle.words.specs.Decides.{Decides};
 ghost use Rattle.picking.specs.Spot.{at, Asked};
 ghost use Rattle.search.specs.Step.{Step as StepMade, Follows};
 ghost use Rattle.search.specs.Inner.{outOf, none, Kept, Open, Stepping, Candidates};
-use operators::shape_of;
+use operators::operand_count;
 use picking::Spot;
 use picking::Three;
 use picking::essential;
@@ -78,7 +78,7 @@ fn candidates(s: Spot, t: u64) -> Positions
     requires { ⌜ Stepping s t ⌝ }
     ensures { λ r. ⌜ Candidates s t r ⌝ }
 {
-    let n = shape_of(s.kind).operands as u32;
+    let n = operand_count(s.kind) as u32;
     let mut any = false;
     let mut essentials = no_positions();
     let mut opens = no_positions();

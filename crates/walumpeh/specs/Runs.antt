@@ -9,6 +9,7 @@ use Rattle.search.specs.declared.Verdict.the-variants.{Model, Spent, Ended, Clo
 use Rattle.search.specs.declared.Outcome.{Outcome}
 use Rattle.search.specs.declared.Outcome.the-variants.{Refused, Settled}
 use Rattle.search.specs.declared.Answer.{Answer}
+use Rattle.search.specs.Answers.{placeOf}
 use Rattle.search.specs.Call.{Called}
 use Rattle.search.specs.Determined.{run-determined}
 
@@ -24,13 +25,9 @@ abbrev pub outcomeCode : Outcome → ℕ
 outcomeCode (Settled v) = verdictCode v
 outcomeCode (Refused r) = 16 + r .number
 
-abbrev pub outcomePlace : Outcome → ℕ
-outcomePlace (Settled v) = 0
-outcomePlace (Refused r) = r .place
-
 -- the counts and the refusal's place in the first four places
 abbrev pub reported : List ℕ → Answer → List ℕ
-reported out a = set (set (set (set out 0 (a .moves)) 1 (a .steps)) 2 (a .words)) 3 (outcomePlace (a .outcome))
+reported out a = set (set (set (set out 0 (a .moves)) 1 (a .steps)) 2 (a .words)) 3 (placeOf (a .outcome))
 
 -- a call with the bytes s, the places start, the tape ws, the budget B and the places out: values and out afterwards, and
 -- the number

@@ -5,7 +5,8 @@ use search::Verdict;
 ghost use mathlib.Core.Path.{_≡_};
 ghost use Prim.Native.Nat.{_≤_};
 ghost use lib.ListN.{length};
-ghost use Rattle.walumpeh.specs.Runs.{verdictCode, outcomeCode, outcomePlace, reported, RunCode};
+ghost use Rattle.search.specs.Answers.{placeOf};
+ghost use Rattle.walumpeh.specs.Runs.{verdictCode, outcomeCode, reported, RunCode};
 
 fn verdict_code(v: Verdict) -> u32
     ensures { λ r. ⌜ r ≡ verdictCode v ⌝ }
@@ -28,7 +29,7 @@ fn outcome_code(o: Outcome) -> u32
 }
 
 fn outcome_place(o: Outcome) -> u64
-    ensures { λ r. ⌜ r ≡ outcomePlace o ⌝ }
+    ensures { λ r. ⌜ r ≡ placeOf o ⌝ }
 {
     match o {
         Outcome::Settled(_) => 0,

@@ -4,8 +4,8 @@ use borrow.Author.Needs.{needs}
 use Rattle.search.proofs.operands.widths_of.Statement.{statement}
 use Rattle.search.proofs.operands.widths_of.Tie as tie
 
-shape-of-requires : tie.Need-shape-of-requires
-shape-of-requires c κs = search needs
+operand-count-requires : tie.Need-operand-count-requires
+operand-count-requires c κs = search needs
 
 width-if-requires : tie.Need-width-if-requires
 width-if-requires c κs = search needs
@@ -19,9 +19,9 @@ width-if-requires-3 c κs = search needs
 returns : tie.Need-returns
 unfolding widthsIn
 returns c = rw
-    (c .before .before .width-if .ensures, c .before .width-if2 .ensures, c .width-if3 .ensures, c .before .before .before .shape-of .ensures)
+    (c .before .before .width-if .ensures, c .before .width-if2 .ensures, c .width-if3 .ensures, c .before .before .before .operand-count .ensures)
 
 pub widths-of-spec : {M : Type 1} → statement M
 widths-of-spec =
     tie.close
-    (tie.spec shape-of-requires width-if-requires width-if-requires-2 width-if-requires-3 returns)
+    (tie.spec operand-count-requires width-if-requires width-if-requires-2 width-if-requires-3 returns)

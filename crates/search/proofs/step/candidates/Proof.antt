@@ -1,9 +1,8 @@
 -- `search::step::candidates` meets its contract.
-use mathlib.Core.Path.{_≡_, ap}
+use mathlib.Core.Path.{_≡_}
 use Prim.Native.Nat.{_≤_, _-_}
 use native.Mathlib.Omega.{arith}
 use borrow.Author.Needs.{needs}
-use Rattle.operators.specs.declared.table.Shape.{Shape}
 use Rattle.picking.specs.Spot.{positions}
 use Rattle.search.proofs.Steps.{few-two, Sorted, sorted-none, sorted-more, all-essential, all-open}
 use Rattle.search.proofs.step.candidates.Statement.{statement}
@@ -15,8 +14,8 @@ Inv-loop s t n any₀ essentials₀ opens₀ i₀ any essentials opens i = (n �
 abbrev μ-loop : tie.MeasureT-loop
 μ-loop s t n any₀ essentials₀ opens₀ i₀ any essentials opens i = n - i
 
-shape-of-requires : tie.Need-shape-of-requires Inv-loop μ-loop
-shape-of-requires c κs = search needs
+operand-count-requires : tie.Need-operand-count-requires Inv-loop μ-loop
+operand-count-requires c κs = search needs
 
 cast-n : tie.Need-cast-n Inv-loop μ-loop
 cast-n c = search needs
@@ -28,20 +27,20 @@ no-positions-requires-2 : tie.Need-no-positions-requires-2 Inv-loop μ-loop
 no-positions-requires-2 c κs = search needs
 
 loop-holds : tie.Need-loop-holds Inv-loop μ-loop
-loop-holds c = (ap (λ (x : Shape). x .operands) (c .before .before .before .shape-of .ensures), omega arith, rw (c .before .no-positions .ensures, c .no-positions2 .ensures) (sorted-none _ _))
+loop-holds c = (c .before .before .operand-count .ensures, omega arith, rw (c .before .no-positions .ensures, c .no-positions2 .ensures) (sorted-none _ _))
 
 essential-requires : tie.Need-essential-requires Inv-loop μ-loop
-essential-requires c κs = let st = c .before .before .before .before .before .before in
+essential-requires c κs = let st = c .before .before .before .before .before in
     record { fair = st .pre .fair (omega arith); position = omega arith; target = st .pre .target }
 
 open-at-requires : tie.Need-open-at-requires Inv-loop μ-loop
 open-at-requires c κs = search needs
 
 kept-requires : tie.Need-kept-requires Inv-loop μ-loop
-kept-requires c κs = few-two (c .before .before .before .before .before .before .before .before .args .s) (c .before .before .before .loop .inv .2 .few-es) (omega arith)
+kept-requires c κs = few-two (c .before .before .before .before .before .before .before .args .s) (c .before .before .before .loop .inv .2 .few-es) (omega arith)
 
 kept-requires-2 : tie.Need-kept-requires-2 Inv-loop μ-loop
-kept-requires-2 c κs = few-two (c .before .before .before .before .before .before .before .before .before .args .s) (c .before .before .before .before .loop .inv .2 .few-os) (omega arith)
+kept-requires-2 c κs = few-two (c .before .before .before .before .before .before .before .before .args .s) (c .before .before .before .before .loop .inv .2 .few-os) (omega arith)
 
 add-i : tie.Need-add-i Inv-loop μ-loop
 add-i c = search needs
@@ -69,7 +68,7 @@ candidates-spec =
     (tie.spec
     Inv-loop
     μ-loop
-    shape-of-requires
+    operand-count-requires
     cast-n
     no-positions-requires
     no-positions-requires-2

@@ -1,0 +1,23 @@
+-- The paper's number, place and name of what a run answers, for each case.
+use Prim.Native.Nat.{ℕ}
+use Prim.Native.String.{String}
+use Rattle.search.specs.declared.Verdict.{Verdict}
+use Rattle.search.specs.declared.Verdict.the-variants.{Model, Spent, Ended, Closed}
+use Rattle.search.specs.declared.Outcome.{Outcome}
+use Rattle.search.specs.declared.Outcome.the-variants.{Refused, Settled}
+
+-- "a refusal with its number and place, or a verdict", of which both are 0
+abbrev pub numberOf : Outcome → ℕ
+numberOf (Refused r) = r .number
+numberOf (Settled v) = 0
+
+abbrev pub placeOf : Outcome → ℕ
+placeOf (Refused r) = r .place
+placeOf (Settled v) = 0
+
+-- "names model, spent, ended, closed"
+abbrev pub name : Verdict → String
+name Model = "model"
+name Spent = "spent"
+name Ended = "ended"
+name Closed = "closed"
