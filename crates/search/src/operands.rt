@@ -5,6 +5,7 @@ ghost use mathlib.Core.Bool.{true};
 ghost use Prim.Native.Nat.{_<_};
 ghost use lib.ListN.{length, getD};
 ghost use Rattle.picking.specs.Spot.{at};
+ghost use Rattle.operators.specs.Table.{shapeOf};
 ghost use Rattle.problem.specs.Layout.{widthAt};
 ghost use Rattle.search.specs.Problem.{oneOf};
 ghost use Rattle.search.specs.Inner.{ids, OperandsBelow, heldIn, widthsIn, operatorIn};
@@ -28,11 +29,11 @@ fn width_if(bytes: &[u8], id: u16, there: bool) -> u8
     if there { width_at(bytes, id) } else { 0 }
 }
 
-// The widths of a node's operands.
-pub(crate) fn widths_of(bytes: &[u8], n: Node) -> Widths
+// The widths of a node's operands, of which there are so many.
+pub(crate) fn widths_of(bytes: &[u8], n: Node, count: u8) -> Widths
+    requires { ⌜ count ≡ shapeOf (n .kind) .operands ⌝ }
     ensures { λ r. ⌜ r ≡ widthsIn (now (bytes .entry)) n ⌝ }
 {
-    let count = operand_count(n.kind);
     Widths {
         a: width_if(bytes, n.a, 0 < count),
         b: width_if(bytes, n.b, 1 < count),
@@ -44,7 +45,7 @@ pub(crate) fn widths_of(bytes: &[u8], n: Node) -> Widths
 pub(crate) fn operator(bytes: &[u8], n: Node) -> Op
     ensures { λ r. ⌜ r ≡ operatorIn (now (bytes .entry)) n ⌝ }
 {
-    let w = widths_of(bytes, n);
+    let w = widths_of(bytes, n, operand_count(n.kind));
     Op {
         kind: n.kind,
         width: n.width as u32,
@@ -62,12 +63,11 @@ fn held_if(list: &[u64], id: u16, there: bool) -> u64
     if there { list[id as usize] } else { 0 }
 }
 
-// What a list has at the ids of a node's operands.
-pub(crate) fn held(list: &[u64], n: Node) -> Three
-    requires { ⌜ OperandsBelow n (length (now list)) ⌝ }
+// What a list has at the ids of a node's operands, of which there are so many.
+pub(crate) fn held(list: &[u64], n: Node, count: u8) -> Three
+    requires { ⌜ OperandsBelow n (length (now list)) × (count ≡ shapeOf (n .kind) .operands) ⌝ }
     ensures { λ r. ⌜ r ≡ heldIn (now (list .entry)) n ⌝ }
 {
-    let count = operand_count(n.kind);
     Three {
         a: held_if(list, n.a, 0 < count),
         b: held_if(list, n.b, 1 < count),

@@ -7,6 +7,7 @@ ghost use Rattle.search.specs.Inner.{Narrowed, derives, Fillable, pairsO
 use crate::operands::held;
 use crate::operands::operator;
 use operators::Pair;
+use operators::operand_count;
 use operators::pair_of;
 use problem::Node;
 use problem::node_at;
@@ -19,8 +20,9 @@ fn inner_pair(bytes: &[u8], los: &[u64; 1024], his: &[u64; 1024], n: Node) -> Pa
     requires { ⌜ Narrowed (now bytes) (now los) (now his) n ⌝ }
     ensures { λ r. ⌜ r ≡ derives (now (bytes .entry)) (now (los .entry)) (now (his .entry)) n ⌝ }
 {
-    let lo = held(los, n);
-    let hi = held(his, n);
+    let count = operand_count(n.kind);
+    let lo = held(los, n, count);
+    let hi = held(his, n, count);
     let p = Pair { lo: lo.a, hi: hi.a };
     let q = Pair { lo: lo.b, hi: hi.b };
     let r = Pair { lo: lo.c, hi: hi.c };

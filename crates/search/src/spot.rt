@@ -3,6 +3,7 @@ ghost use mathlib.Core.Path.{_≡_};
 ghost use Rattle.search.specs.Inner.{Spotted, spotIn};
 use crate::operands::held;
 use crate::operands::widths_of;
+use operators::operand_count;
 use picking::Spot;
 use picking::Three;
 use problem::Node;
@@ -17,7 +18,8 @@ pub(crate) fn spot_of(
     requires { ⌜ Spotted (now los) (now his) (now values) n ⌝ }
     ensures { λ r. ⌜ r ≡ spotIn (now (bytes .entry)) (now (los .entry)) (now (his .entry)) (now (values .entry)) n ⌝ }
 {
-    let w = widths_of(bytes, n);
+    let count = operand_count(n.kind);
+    let w = widths_of(bytes, n, count);
     Spot {
         kind: n.kind,
         width: n.width as u32,
@@ -27,8 +29,8 @@ pub(crate) fn spot_of(
             b: w.b as u64,
             c: w.c as u64,
         },
-        los: held(los, n),
-        his: held(his, n),
-        current: held(values, n),
+        los: held(los, n, count),
+        his: held(his, n, count),
+        current: held(values, n, count),
     }
 }

@@ -1,6 +1,6 @@
 // One step of a move, at one node: its candidates, the one that is followed, and the pick there.
 ghost use mathlib.Core.Path.{_≡_};
-ghost use Prim.Native.Nat.{_≤_};
+ghost use Prim.Native.Nat.{_/_, _%_, _≤_, _<_};
 ghost use Rattle.words.specs.Decides.{Decides};
 ghost use Rattle.picking.specs.Spot.{at, Asked};
 ghost use Rattle.search.specs.Step.{Step as StepMade, Follows};
@@ -108,6 +108,19 @@ fn pick_at(s: Spot, t: u64, e: u64, p: u64, i: u32) -> Found
     pick_consistent(s, i, t, p)
 }
 
+// Which of so many candidates is followed: "(e div 2) modulo their count". There are at most three, and to divide by a number
+// that is known takes no division.
+fn chosen(e: u64, n: u64) -> u64
+    requires { ⌜ (0 < n) × (n ≤ 3) ⌝ }
+    ensures { λ r. ⌜ r ≡ e / 2 % n ⌝ }
+{
+    match n {
+        1 => 0,
+        2 => e / 2 % 2,
+        _ => e / 2 % 3,
+    }
+}
+
 // "None left: the move ends blocked. Else the candidate numbered (e div 2) modulo their count .. is followed."
 pub(crate) fn step(s: Spot, t: u64, e: u64, p: u64) -> Way
     requires { ⌜ Stepping s t ⌝ }
@@ -122,7 +135,7 @@ pub(crate) fn step(s: Spot, t: u64, e: u64, p: u64) -> Way
         };
     }
     let list = c.list;
-    let k = e / 2 % n;
+    let k = chosen(e, n);
     let i = held_at(list, (n - 1 - k) as u32) as u32;
     let found = pick_at(s, t, e, p, i);
     Way { position: i, found }

@@ -4,9 +4,6 @@ use borrow.Author.Needs.{needs}
 use Rattle.search.proofs.operands.widths_of.Statement.{statement}
 use Rattle.search.proofs.operands.widths_of.Tie as tie
 
-operand-count-requires : tie.Need-operand-count-requires
-operand-count-requires c κs = search needs
-
 width-if-requires : tie.Need-width-if-requires
 width-if-requires c κs = search needs
 
@@ -19,9 +16,9 @@ width-if-requires-3 c κs = search needs
 returns : tie.Need-returns
 unfolding widthsIn
 returns c = rw
-    (c .before .before .width-if .ensures, c .before .width-if2 .ensures, c .width-if3 .ensures, c .before .before .before .operand-count .ensures)
+    (c .before .before .width-if .ensures, c .before .width-if2 .ensures, c .width-if3 .ensures, c .before .before .before .before .pre)
 
 pub widths-of-spec : {M : Type 1} → statement M
 widths-of-spec =
     tie.close
-    (tie.spec operand-count-requires width-if-requires width-if-requires-2 width-if-requires-3 returns)
+    (tie.spec width-if-requires width-if-requires-2 width-if-requires-3 returns)

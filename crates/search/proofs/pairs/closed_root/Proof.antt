@@ -3,12 +3,10 @@ use mathlib.Core.Path.{_≡_, sym, ap, _∙_}
 use Prim.Native.Nat.{ℕ, _≤_, _<_, _-_}
 use native.Mathlib.Omega.{arith}
 use borrow.Author.Count.{below-more}
-use borrow.Author.Needs.{needs}
 use lib.ListN.{getD}
 use Rattle.search.specs.Problem.{problem, pairHi}
 use Rattle.search.proofs.Nodes.{root-inside, root-hi}
 use Rattle.search.specs.GoodLaws.{good-of}
-use borrow.Author.Needs.{needs}
 use borrow.Author.Needs.{needs}
 use Rattle.search.proofs.pairs.closed_root.Statement.{statement}
 use Rattle.search.proofs.pairs.closed_root.Tie as tie

@@ -4,6 +4,9 @@ use borrow.Author.Needs.{needs}
 use Rattle.search.proofs.pairs.inner_pair.Statement.{statement}
 use Rattle.search.proofs.pairs.inner_pair.Tie as tie
 
+operand-count-requires : tie.Need-operand-count-requires
+operand-count-requires c κs = search needs
+
 held-requires : tie.Need-held-requires
 held-requires c κs = search needs
 
@@ -15,7 +18,7 @@ operator-requires c κs = search needs
 
 pair-of-requires : tie.Need-pair-of-requires
 pair-of-requires c κs = rw (c .operator .ensures, c .before .before .before .held .ensures, c .before .held2 .ensures)
-    (c .before .before .before .before .before .before .pre .ready)
+    (c .before .before .before .before .before .before .before .pre .ready)
 
 returns : tie.Need-returns
 returns c = c .pair-of .ensures
@@ -23,4 +26,4 @@ returns c = c .pair-of .ensures
 
 pub inner-pair-spec : {M : Type 1} → statement M
 inner-pair-spec =
-    tie.close (tie.spec held-requires held-requires-2 operator-requires pair-of-requires returns)
+    tie.close (tie.spec operand-count-requires held-requires held-requires-2 operator-requires pair-of-requires returns)

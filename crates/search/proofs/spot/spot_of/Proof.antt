@@ -4,11 +4,11 @@ use borrow.Author.Needs.{needs}
 use Rattle.search.proofs.spot.spot_of.Statement.{statement}
 use Rattle.search.proofs.spot.spot_of.Tie as tie
 
+operand-count-requires : tie.Need-operand-count-requires
+operand-count-requires c κs = search needs
+
 widths-of-requires : tie.Need-widths-of-requires
 widths-of-requires c κs = search needs
-
-cast-t7 : tie.Need-cast-t7
-cast-t7 c = search needs
 
 cast-t8 : tie.Need-cast-t8
 cast-t8 c = search needs
@@ -21,6 +21,9 @@ cast-t10 c = search needs
 
 cast-t11 : tie.Need-cast-t11
 cast-t11 c = search needs
+
+cast-t12 : tie.Need-cast-t12
+cast-t12 c = search needs
 
 held-requires : tie.Need-held-requires
 held-requires c κs = search needs
@@ -40,12 +43,13 @@ pub spot-of-spec : {M : Type 1} → statement M
 spot-of-spec =
     tie.close
     (tie.spec
+    operand-count-requires
     widths-of-requires
-    cast-t7
     cast-t8
     cast-t9
     cast-t10
     cast-t11
+    cast-t12
     held-requires
     held-requires-2
     held-requires-3
