@@ -14,6 +14,10 @@ struct Question {
     proposal: u64,
 }
 
+/// The calls of the library and of plain Rust.
+const SIDES: [(Pick, Essential); 2] =
+    [(walumpeh::raw::pick, walumpeh::raw::essential), (plain::calls::pick, plain::calls::essential)];
+
 /// The calls that are measured; the last is the essential test.
 const CALLS: [&str; 3] = ["inverse", "consistent", "essential"];
 
@@ -22,9 +26,9 @@ pub fn table(rounds: usize) {
     for kind in Kind::ALL.into_iter().skip(2) {
         let questions = questions(kind);
         for (which, name) in CALLS.into_iter().enumerate() {
-            let call = [by_library, by_plain];
             let parts: Vec<&[Question]> = questions.chunks(500).collect();
-            let work = |side: usize, part: usize| parts[part].iter().for_each(|q| call[side](q, which as u8));
+            let work =
+                |side: usize, part: usize| parts[part].iter().for_each(|q| ask(SIDES[side], q, which as u8));
             let times = fastest(rounds, parts.len(), work);
             let [library, plain] = times.map(|time| time / questions.len() as f64);
             println!("{:8} {name:10}   {library:>8.1} {plain:>8.1}   {:>5.2}", kind.name(), plain / library);
@@ -46,42 +50,17 @@ fn questions(kind: Kind) -> Vec<Question> {
     (0..6000).map(question).collect()
 }
 
-fn by_library(q: &Question, which: u8) {
-    let o = &q.spot.operator;
-    let mut out = [0];
-    let answer = match which {
-        2 => walumpeh::raw::essential(o.kind.number(), o.width, o.low, &q.words, q.position, q.target),
-        _ => walumpeh::raw::pick(
-            o.kind.number(),
-            o.width,
-            o.low,
-            &q.words,
-            q.position,
-            q.target,
-            q.proposal,
-            which,
-            &mut out,
-        ),
-    };
-    black_box((answer, out));
-}
+type Pick = fn(u8, u32, u32, &[u64; 12], u32, u64, u64, u8, &mut [u64; 1]) -> u8;
+type Essential = fn(u8, u32, u32, &[u64; 12], u32, u64) -> u8;
 
-fn by_plain(q: &Question, which: u8) {
+/// One call of a side.
+fn ask((pick, essential): (Pick, Essential), q: &Question, which: u8) {
     let o = &q.spot.operator;
+    let kind = o.kind.number();
     let mut out = [0];
     let answer = match which {
-        2 => plain::calls::essential(o.kind.number(), o.width, o.low, &q.words, q.position, q.target),
-        _ => plain::calls::pick(
-            o.kind.number(),
-            o.width,
-            o.low,
-            &q.words,
-            q.position,
-            q.target,
-            q.proposal,
-            which,
-            &mut out,
-        ),
+        2 => essential(kind, o.width, o.low, &q.words, q.position, q.target),
+        _ => pick(kind, o.width, o.low, &q.words, q.position, q.target, q.proposal, which, &mut out),
     };
     black_box((answer, out));
 }
