@@ -48,7 +48,7 @@ meaning-lt extract w wa wb low x y z h f = mod-lt (x / 2 ^ low) (pow-pos w)
 -- ---- the width rule, and operands of their nodes' widths, make a fit
 
 -- the operands that a width rule speaks of: those of the kinds that have the rule
-abbrev takes : Rule → ℕ
+abbrev pub takes : Rule → ℕ
 takes Free = 0
 takes One = 1
 takes Both = 2
@@ -57,7 +57,7 @@ takes Choice = 3
 takes Sum = 2
 takes Part = 1
 
-takes-is : (o : Kind) → takes (shape o .rule) ≡ shape o .operands
+pub takes-is : (o : Kind) → takes (shape o .rule) ≡ shape o .operands
 takes-is variable = refl
 takes-is constant = refl
 takes-is inv = refl

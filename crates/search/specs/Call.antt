@@ -1,16 +1,15 @@
 -- A call of the run, from bytes: refusals 1 to 15, else the whole run.
 use mathlib.Core.Path.{_≡_}
-use mathlib.Core.Bool.{Bool, not, _&&_, _||_}
+use mathlib.Core.Bool.{Bool, _&&_, _||_}
 use mathlib.Core.List.{List, [], _∷_}
 use Prim.Native.Nat.{ℕ}
-use lib.Bits.{bitAnd}
 use lib.Dec.{eqb, ltb}
 use lib.ListN.{length, getD}
 use Rattle.problem.specs.declared.Refusal.{Refusal}
 use Rattle.problem.specs.declared.Checked.{Checked}
 use Rattle.problem.specs.declared.Checked.the-variants.{Accepted, Refused}
 use Rattle.problem.specs.Layout.{nodeCount, nodeAt}
-use Rattle.problem.specs.Refusals.{firstOf, _then_, firstBelow, checked}
+use Rattle.problem.specs.Refusals.{firstOf, _then_, firstBelow, bitOutside, checked}
 use Rattle.search.specs.declared.Outcome.{Outcome}
 use Rattle.search.specs.declared.Answer.{Answer}
 use Rattle.search.specs.Problem.{problem}
@@ -20,9 +19,9 @@ use Rattle.search.specs.Run.{Whole}
 unfoldable pub placesFault : List ℕ → List ℕ → Checked
 placesFault s start = firstOf 0 ((14, ltb (length start) (nodeCount s)) ∷ [])
 
--- lo is within v and v within hi: `Agrees lo hi v`, as a test
+-- v does not agree with lo, hi: a bit of lo is outside v, or one of v outside hi
 unfoldable pub disagrees : ℕ → ℕ → ℕ → Bool
-disagrees lo hi v = not (eqb (bitAnd lo v) lo) || not (eqb (bitAnd v hi) v)
+disagrees lo hi v = bitOutside lo v || bitOutside v hi
 
 -- 15, of node i: "a variable's start does not agree with its pair"
 unfoldable pub startFault : List ℕ → List ℕ → ℕ → Checked

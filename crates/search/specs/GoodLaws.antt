@@ -3,10 +3,10 @@ use mathlib.Core.Path.{_≡_}
 use mathlib.Core.List.{List}
 use Prim.Native.Nat.{ℕ, zero, suc, _<_}
 use native.Mathlib.Omega.{arith}
-use lib.Dec.{eqb, eqb→eq}
 use Rattle.operators.specs.declared.table.Rule.{Rule}
 use Rattle.operators.specs.declared.table.Rule.the-variants.{Free, One, Both, Equal, Choice, Sum, Part}
-use Rattle.operators.specs.Table.{kinds, shape, shapeOf, RuleMet}
+use Rattle.operators.specs.Table.{kindOf, shapeOf, RuleMet}
+use Rattle.operators.specs.MeaningLaws.{takes, takes-is}
 use Rattle.picking.specs.declared.spot.Three.{Three}
 use Rattle.problem.specs.declared.Checked.the-variants.{Accepted}
 use Rattle.problem.specs.Layout.{nodeCount, nodeAt, widthAt}
@@ -15,26 +15,12 @@ use Rattle.problem.specs.Facts.{NodeFacts, Facts}
 use Rattle.problem.specs.FactsLaws.{accepted-facts}
 use Rattle.search.specs.Problem.{problem, three, count, arg}
 use Rattle.search.specs.Good.{Good, GoodNode, widthsOf}
-use Rattle.picking.specs.Positions.{every-kind}
 
--- how many widths of operands a width rule speaks of: as many as its kinds have operands
-abbrev needs : Rule → ℕ
-needs Free = 0
-needs One = 1
-needs Both = 2
-needs Equal = 2
-needs Choice = 3
-needs Sum = 2
-needs Part = 1
-
-needs-is : (k : ℕ) → needs (shapeOf k .rule) ≡ shapeOf k .operands
-needs-is k = eqb→eq _ _ (every-kind (λ o. eqb (needs (shape o .rule)) (shape o .operands)) kinds tt k)
-
--- the others do not bear
+-- a width rule speaks of the widths of as many operands as its kinds have; the others do not bear
 rule-first :
     (r : Rule) (w b : ℕ) (f : ℕ → ℕ)
     → RuleMet r w (f 0) (f 1) (f 2) b
-    → RuleMet r w (three (needs r) f .a) (three (needs r) f .b) (three (needs r) f .c) b
+    → RuleMet r w (three (takes r) f .a) (three (takes r) f .b) (three (takes r) f .c) b
 unfolding three
 rule-first Free w b f h = h
 rule-first One w b f h = h
@@ -60,7 +46,7 @@ module _ (s : List ℕ) (F : Facts s) (n : ℕ) (l : n < nodeCount s) where
   rule-here : RuleMet (shapeOf (nodeAt s n .kind) .rule) (nodeAt s n .width) (widths .a) (widths .b) (widths .c) (nodeAt s n .b)
   unfolding problem widthAt
   rule-here =
-      rw (needs-is (nodeAt s n .kind)) at
+      rw (takes-is (kindOf (nodeAt s n .kind))) at
       (rule-first (shapeOf (nodeAt s n .kind) .rule) (nodeAt s n .width) (nodeAt s n .b)
       (λ i. nodeAt s (arg (problem s) n i) .width) (here .rule))
 

@@ -3,6 +3,7 @@ use mathlib.Core.Path.{_≡_, refl}
 use mathlib.Core.List.{[]}
 use Rattle.problem.specs.FactsLaws.{accepted-facts, node-inside}
 use Rattle.problem.specs.FirstLaws.{line-start, line-more}
+use Rattle.problem.specs.Refusals.{bitOutside}
 use Rattle.search.specs.Call.{startFault, disagrees}
 use borrow.Author.Needs.{needs}
 use Rattle.search.proofs.starts.start_fault.Statement.{statement}
@@ -21,7 +22,7 @@ line-requires : tie.Need-line-requires
 line-requires c κs = search needs
 
 returns : tie.Need-returns
-unfolding startFault disagrees
+unfolding startFault disagrees bitOutside
 returns c = rw (← c .before .before .before .before .before .before .node-at .ensures) (line-more _ [] 15 _ _ _ _ (line-start _) refl (c .line .ensures))
 
 pub start-fault-spec : {M : Type 1} → statement M
