@@ -7,7 +7,9 @@ use native.Mathlib.Omega.{arith}
 use lib.Pow.{not-mod, pow-mono, pow-pos}
 use mir.Val.{boolByte}
 use Rattle.words.specs.Modular.{cut-cut}
+use Rattle.operators.specs.declared.meaning.Op.{Op}
 use Rattle.operators.specs.Meaning.{flag, choose}
+use Rattle.operators.specs.Ready.{Ready}
 
 -- a word that was computed modulo 2^W, cut to fewer bits
 pub recut : (r n W w : ℕ) → r ≡ n % 2 ^ W → w ≤ W → r % 2 ^ w ≡ n % 2 ^ w
@@ -30,6 +32,10 @@ pub chosen : (x y z : ℕ) → (x ≡ 0 → ⊥) → y ≡ choose x y z
 chosen zero y z h = absurd (h refl)
 chosen (suc x) y z h = refl
 
+-- the second operand of a concat has the width that the first leaves
+pub rest : (w wa wb : ℕ) → wa + wb ≡ w → w - wa ≡ wb
+rest w wa wb e = omega arith
+
 -- what joining and taking a part ask, from the width rule
 pub join-asks : (w wa wb x y : ℕ) → w ≤ 64 → (wa + wb ≡ w) × (1 ≤ wa) × (x < 2 ^ wa) × (y < 2 ^ wb) → (wb < 64) × (y < 2 ^ wb) × (x < 2 ^ (64 - wb))
 join-asks w wa wb x y h f = (omega (arith, f .0, f .1), f .3, lt-of-lt-of-le (f .2) (pow-mono (omega (arith, f .0))))
@@ -47,5 +53,5 @@ past m zero n h r = omega arith
 past m (suc k) n h r = let g : m + k ≤ n = past m k n h (r .0) in let d : n ≡ m + k → ⊥ = r .1 in omega arith
 
 -- of the kinds 2 to 13, 13 is left
-pub last-kind : (n : ℕ) → 2 ≤ n → n < 14 → NoneOf 2 11 n → n ≡ 13
-last-kind n h l r = let g : 2 + 11 ≤ n = past 2 11 n h r in omega arith
+pub last-kind : {op : Op} {x y z : ℕ} → Ready op x y z → NoneOf 2 11 (op .kind) → op .kind ≡ 13
+last-kind d r = let g : 2 + 11 ≤ _ = past 2 11 _ (d .operator) r in omega (arith, d .known)

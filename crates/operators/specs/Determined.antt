@@ -1,7 +1,9 @@
 -- The contract of each public function determines its result: any two results that it allows are equal.
 use mathlib.Core.Path.{_≡_, sym, _∙_}
 use mathlib.Core.Bool.{Bool}
+use mathlib.Core.List.{List}
 use Prim.Native.Nat.{ℕ, _-_, _/_, _%_, _^_}
+use lib.ListN.{getD}
 use Rattle.operators.specs.declared.fixed.Pair.{Pair}
 use Rattle.operators.specs.declared.meaning.Op.{Op}
 use Rattle.operators.specs.declared.table.Rule.{Rule}
@@ -29,9 +31,10 @@ flip-determined a w r s = equal
 pub part-determined : (a k w r s : ℕ) → r ≡ a / 2 ^ k % 2 ^ w → s ≡ a / 2 ^ k % 2 ^ w → r ≡ s
 part-determined a k w r s = equal
 
-pub value-determined : (op : Op) (x y z r s : ℕ) → r ≡ meaning (kindOf (op .kind)) (op .width) (op .wa) (op .wb) (op .low) x y z
-    → s ≡ meaning (kindOf (op .kind)) (op .width) (op .wa) (op .wb) (op .low) x y z → r ≡ s
-value-determined op x y z r s = equal
+pub value-determined : (op : Op) (held : List ℕ) (a b c r s : ℕ)
+    → r ≡ meaning (kindOf (op .kind)) (op .width) (op .wa) (op .wb) (op .low) (getD held a 0) (getD held b 0) (getD held c 0)
+    → s ≡ meaning (kindOf (op .kind)) (op .width) (op .wa) (op .wb) (op .low) (getD held a 0) (getD held b 0) (getD held c 0) → r ≡ s
+value-determined op held a b c r s = equal
 
 pub pair-of-determined : (op : Op) (p q r v u : Pair) → v ≡ pairOf (kindOf (op .kind)) (op .width) (op .wa) (op .wb) (op .low) p q r
     → u ≡ pairOf (kindOf (op .kind)) (op .width) (op .wa) (op .wb) (op .low) p q r → v ≡ u

@@ -1,9 +1,10 @@
 // What each operator gives on its operands' values, in word operations.
 ghost use mathlib.Core.Path.{_≡_};
 ghost use Prim.Native.Nat.{_+_, _-_, _*_, _/_, _%_, _^_, _≤_, _<_};
+ghost use lib.ListN.{length, getD};
 ghost use Rattle.operators.specs.Table.{kindOf};
 ghost use Rattle.operators.specs.Meaning.{meaning};
-ghost use Rattle.operators.specs.Ready.{Ready};
+ghost use Rattle.operators.specs.Ready.{Standing};
 
 // An operator in its place: its kind, its node's width, the widths of operands a and b, and its lowest bit (extract).
 pub struct Op {
@@ -69,25 +70,42 @@ pub fn part(a: u64, k: u32, w: u32) -> u64
     words::cut(a >> k, w)
 }
 
-// The value of an operator of kinds 2 to 13 on its operands' values.
-pub fn value(op: Op, x: u64, y: u64, z: u64) -> u64
-    requires { ⌜ Ready op x y z ⌝ }
-    ensures { λ r. ⌜ r ≡ meaning (kindOf (op .kind)) (op .width) (op .wa) (op .wb) (op .low) x y z ⌝ }
+// What a list has at an id.
+fn read(held: &[u64], id: u16) -> u64
+    requires { ⌜ id < length (now held) ⌝ }
+    ensures { λ r. ⌜ r ≡ getD (now (held .entry)) id 0 ⌝ }
+{
+    held[id as usize]
+}
+
+// The value of an operator of kinds 2 to 13 on its operands' values, which stand in a list at the ids a, b and c. Each arm reads
+// what its kind uses, so that no node pays for another's operands. Operand b of a concat is as wide as operand a leaves: its
+// own width is not looked at, because field b is not always an id, and a caller would have to test it for every kind.
+pub fn value(op: Op, held: &[u64], a: u16, b: u16, c: u16) -> u64
+    requires { ⌜ Standing op (now held) a b c ⌝ }
+    ensures { λ r. ⌜
+        r ≡ meaning (kindOf (op .kind)) (op .width) (op .wa) (op .wb) (op .low)
+        (getD (now (held .entry)) a 0) (getD (now (held .entry)) b 0) (getD (now (held .entry)) c 0)
+        ⌝ }
 {
     let kind = op.kind;
     let w = op.width;
     match kind {
-        2 => flip(x, w),
-        3 => x & y,
-        4 => x ^ y,
-        5 => sum(x, y, w),
-        6 => product(x, y, w),
-        7 => left(x, y, w),
-        8 => right(x, y),
-        9 => (x == y) as u64,
-        10 => (x < y) as u64,
-        11 => if x == 0 { z } else { y },
-        12 => join(x, y, op.wb),
-        _ => part(x, op.low, w),
+        2 => flip(read(held, a), w),
+        3 => read(held, a) & read(held, b),
+        4 => read(held, a) ^ read(held, b),
+        5 => sum(read(held, a), read(held, b), w),
+        6 => product(read(held, a), read(held, b), w),
+        7 => left(read(held, a), read(held, b), w),
+        8 => right(read(held, a), read(held, b)),
+        9 => (read(held, a) == read(held, b)) as u64,
+        10 => (read(held, a) < read(held, b)) as u64,
+        11 => if read(held, a) == 0 {
+            read(held, c)
+        } else {
+            read(held, b)
+        },
+        12 => join(read(held, a), read(held, b), w - op.wa),
+        _ => part(read(held, a), op.low, w),
     }
 }

@@ -1,20 +1,18 @@
 -- What the code's readings of a node have to do with the definitions.
 use mathlib.Core.Path.{_≡_, refl, sym, ap, _∙_, subst}
-use mathlib.Core.Bool.{Bool, true, false, _||_}
+use mathlib.Core.Bool.{true}
 use mathlib.Core.List.{List, []}
 use Prim.Native.Nat.{ℕ, zero, suc, _+_, _*_, _^_, _≤_, _<_}
 use native.Mathlib.Omega.{arith}
 use native.Mathlib.Decide.{decLt}
-use lib.Dec.{T, ltb, leb, leb→le}
+use lib.Dec.{ltb, leb, leb→le}
 use lib.ListN.{length, getD}
 use borrow.Author.Tests.{ltb-true}
-use Rattle.operators.specs.declared.table.Rule.{Rule}
-use Rattle.operators.specs.declared.table.Rule.the-variants.{Free, One, Both, Equal, Choice, Sum, Part}
-use Rattle.operators.specs.Table.{Kind, kinds, kindOf, shape, shapeOf, RuleMet}
+use Rattle.operators.specs.Table.{kinds, kindOf, shape, shapeOf}
 use Rattle.operators.specs.Meaning.{meaning}
 use Rattle.operators.specs.MeaningLaws.{fit-used, meaning-known}
 use Rattle.operators.specs.Fixed.{pair}
-use Rattle.operators.specs.Ready.{Ready, Ternary}
+use Rattle.operators.specs.Ready.{Standing, Ternary}
 use Rattle.problem.specs.declared.layout.Node.{Node}
 use Rattle.picking.specs.declared.spot.Three.{Three}
 use Rattle.picking.specs.Spot.{at}
@@ -23,13 +21,13 @@ use Rattle.problem.specs.declared.Checked.the-variants.{Accepted}
 use Rattle.problem.specs.Refusals.{checked}
 use Rattle.problem.specs.FactsLaws.{accepted-facts, node-inside}
 use Rattle.search.specs.Problem.{Prob, Pairs, three, problem, count, arg, spotOf, valueOf, evalUp, evaluate, pairAt, fillUp, noPairs, pairs, pairHi}
-use Rattle.picking.specs.Positions.{passes, every-kind, few-positions}
+use Rattle.picking.specs.Positions.{every-kind, few-positions}
 use Rattle.search.specs.Positions.{at-three}
 use Rattle.search.specs.Good.{Good, GoodNode}
 use Rattle.search.specs.EvalLaws.{length-evalUp, evalUp-lt}
 use Rattle.search.specs.NodeLaws.{value-own, value-constant, value-operator, pair-own, pair-operator, pairIn}
 use Rattle.search.specs.PairLaws.{length-fillUp, fillUp-ternary}
-use Rattle.search.specs.SpotLaws.{spot-ready, spot-pairs-ready}
+use Rattle.search.specs.SpotLaws.{spot-pairs-ready}
 use Rattle.search.specs.Inner.{ids, OperandsBelow, heldIn, widthsIn, operatorIn, standingOp, Evaluable, Assigned, pairsOf, derives, Narrowed, Fillable, Filled, Moving}
 use Rattle.search.specs.GoodLaws.{good-of}
 
@@ -49,129 +47,71 @@ at-third x zero n m = absurd (n refl)
 at-third x (suc zero) n m = absurd (m refl)
 at-third x (suc (suc i)) n m = refl
 
--- ---- fields that a kind does not use
-
-either : (x y : Bool) → T (x || y) → (T y → ⊥) → T x
-either true y t n = tt
-either false y t n = absurd (n t)
-
--- of two tests every kind passes one
-either-kind : (f g : Kind → Bool) → T (passes (λ o. f o || g o) kinds) → (k : ℕ) → (T (g (kindOf k)) → ⊥) → T (f (kindOf k))
-either-kind f g t k = either (f (kindOf k)) (g (kindOf k)) (every-kind (λ o. f o || g o) kinds t k)
-
--- a kind that has not the position j, which is a or c, has not its field (extract uses field b and has no position b)
-no-field : (j k : ℕ) → T (passes (λ o. leb (shape o .fields) j || leb (suc j) (shape o .operands)) kinds) → (j < shapeOf k .operands → ⊥) → shapeOf k .fields ≤ j
-no-field j k t n =
-    leb→le _ _ (either-kind (λ o. leb (shape o .fields) j) (λ o. leb (suc j) (shape o .operands)) t k (λ l. n (leb→le _ _ l)))
-
--- a width rule that does not speak of operand b
-abbrev without-b : Rule → Bool
-without-b Free = true
-without-b One = true
-without-b Both = false
-without-b Equal = false
-without-b Choice = false
-without-b Sum = false
-without-b Part = true
-
-rule-spare : (r : Rule) (w wa wb wc low wb′ : ℕ) → T (without-b r) → RuleMet r w wa wb wc low → RuleMet r w wa wb′ wc low
-rule-spare Free w wa wb wc low wb′ t m = tt
-rule-spare One w wa wb wc low wb′ t m = m
-rule-spare Both w wa wb wc low wb′ t m = absurd t
-rule-spare Equal w wa wb wc low wb′ t m = absurd t
-rule-spare Choice w wa wb wc low wb′ t m = absurd t
-rule-spare Sum w wa wb wc low wb′ t m = absurd t
-rule-spare Part w wa wb wc low wb′ t m = m
-
--- a kind that has no position b has such a rule
-no-second : (k : ℕ) → (1 < shapeOf k .operands → ⊥) → T (without-b (shapeOf k .rule))
-no-second k n = either-kind (λ o. without-b (shape o .rule)) (λ o. leb 2 (shape o .operands)) tt k (λ l. n (leb→le _ _ l))
-
 -- ---- node i of an accepted problem
 
-module _ (s vs : List ℕ) (i : ℕ) where
-  -- a field that is 0 where the kind has not the position j is the id of a node
-  id-inside :
-      {x : ℕ}
-      → Evaluable s vs i
-      → (j : ℕ)
-      → T (passes (λ o. leb (shape o .fields) j || leb (suc j) (shape o .operands)) kinds)
-      → (j < shapeOf (nodeAt s i .kind) .operands → x < i)
-      → (shapeOf (nodeAt s i .kind) .fields ≤ j → x ≡ 0)
-      → x < problem s .nodes
-  id-inside v j t below unused =
-      elim (decLt j (shapeOf (nodeAt s i .kind) .operands)) [
-        | yes h ↦ omega (arith, below h, v .inside)
-        | no x ↦ omega (arith, unused (no-field j (nodeAt s i .kind) t x), v .inside)
-      ]
+-- a kind uses at most two fields for each of its operands, so none where it has no operand
+few-fields : (k : ℕ) → shapeOf k .fields ≤ 2 * shapeOf k .operands
+few-fields k = leb→le _ _ (every-kind (λ o. leb (shape o .fields) (2 * shape o .operands)) kinds tt k)
 
-  -- its fields a and c are ids of nodes
+module _ (s vs : List ℕ) (i : ℕ) where
+  abbrev n : Node
+  n = nodeAt s i
+
+  abbrev positions : ℕ
+  positions = shapeOf (nodeAt s i .kind) .operands
+
+  -- its field a is the id of a node: an operand's, or 0
   pub first-inside : Evaluable s vs i → nodeAt s i .a < problem s .nodes
   unfolding problem
-  first-inside v = let f = accepted-facts s (v .accepted) .node i (v .inside) in id-inside v 0 tt (f .a-below) (f .a-unused)
+  first-inside v =
+      let f = accepted-facts s (v .accepted) .node i (v .inside) in
+      let few = few-fields (n .kind) in
+      elim (decLt 0 positions) [
+        | yes h ↦ omega (arith, f .a-below h, v .inside)
+        | no x ↦ omega (arith, f .a-unused (omega arith), v .inside)
+      ]
 
-  pub third-inside : Evaluable s vs i → nodeAt s i .c < problem s .nodes
-  unfolding problem
-  third-inside v = let f = accepted-facts s (v .accepted) .node i (v .inside) in id-inside v 2 tt (f .c-below) (f .c-unused)
-
-  -- read with b as its field b
-  module _ (b : ℕ) (v : Evaluable s vs i) (b-same : nodeAt s i .b < i → b ≡ nodeAt s i .b) where
-    abbrev n : Node
-    n = nodeAt s i
-
-    abbrev positions : ℕ
-    positions = shapeOf (nodeAt s i .kind) .operands
-
-    same : 1 < positions → b ≡ n .b
-    unfolding problem
-    same h = b-same (accepted-facts s (v .accepted) .node i (v .inside) .b-below h)
-
-    met : RuleMet (shapeOf (n .kind) .rule) (n .width) (nodeAt s (n .a) .width) (nodeAt s b .width) (nodeAt s (n .c) .width) (n .b)
-    unfolding problem widthAt
-    met =
-        let f = accepted-facts s (v .accepted) .node i (v .inside) in
-        elim (decLt 1 positions) [
-          | yes h ↦ rw (same h) (f .rule)
-          | no x ↦ rule-spare (shapeOf (n .kind) .rule) _ _ _ _ _ _ (no-second (n .kind) x) (f .rule)
-        ]
-
-    -- its operator can be put to work
-    pub operated : 2 ≤ n .kind → Ready (standingOp s n b) (getD vs (n .a) 0) (getD vs b 0) (getD vs (n .c) 0)
-    unfolding problem
-    operated k =
-        let g : Good (problem s) = good-of s (v .accepted) in
-        let here = g .node i (v .inside) in
-        let fits : (j : ℕ) → j < positions → getD vs (at (ids n) j) 0 < 2 ^ nodeAt s (at (ids n) j) .width =
-        λ j h. v .narrow (at (ids n) j) (here .below j h) in
-        record {
+  -- its operator can be put to work
+  pub standing : Evaluable s vs i → 2 ≤ nodeAt s i .kind → Standing (standingOp s (nodeAt s i)) vs (nodeAt s i .a) (nodeAt s i .b) (nodeAt s i .c)
+  unfolding problem widthAt
+  standing v k =
+      let g : Good (problem s) = good-of s (v .accepted) in
+      let here = g .node i (v .inside) in
+      let inside : (j : ℕ) → j < positions → at (ids n) j < length vs =
+      λ j h. omega (arith, here .below j h, v .inside, v .places) in
+      let fits : (j : ℕ) → j < positions → getD vs (at (ids n) j) 0 < 2 ^ nodeAt s (at (ids n) j) .width =
+      λ j h. v .narrow (at (ids n) j) (here .below j h) in
+      record {
+        ready = record {
           operator = k;
           known = here .known;
           some = here .some;
           wide = here .wide;
-          fit = fit-used (kindOf (n .kind)) _ _ _ _ _ _ _ _ met
-              (λ h. let a = g .node (n .a) (omega (arith, here .below 0 h, v .inside)) in (a .some, a .wide))
-              (record { a = fits 0; b = λ h. rw (same h) (fits 1 h); c = fits 2 });
-        }
+          fit = fit-used (kindOf (n .kind)) _ _ _ _ _ _ _ _ (accepted-facts s (v .accepted) .node i (v .inside) .rule)
+              (λ h. let a = g .node (n .a) (first-inside v) in (a .some, a .wide))
+              (record { a = fits 0; b = fits 1; c = fits 2 });
+        };
+        first = omega (arith, first-inside v, v .places);
+        second = inside 1;
+        third = inside 2;
+      }
 
-    -- and what it gives is the node's value
-    pub gives-value :
-        2 ≤ n .kind
-        → meaning (kindOf (n .kind)) (n .width) (nodeAt s (n .a) .width) (nodeAt s b .width) (n .b) (getD vs (n .a) 0) (getD vs b 0) (getD vs (n .c) 0)
-        ≡ valueOf (problem s) vs i
-    unfolding problem
-    gives-value k =
-        let few = few-positions (n .kind) in
-        let stands : (f : ℕ → ℕ) (j : ℕ) → j < positions → f (at (ids n) j) ≡ at (three positions (λ k. f (at (ids n) k))) j =
-        λ f j h. sym (at-three positions (λ k. f (at (ids n) k)) j h few) in
-        let w : ℕ → ℕ = λ m. nodeAt s m .width in
-        let u : ℕ → ℕ = λ m. getD vs m 0 in
-        meaning-known (kindOf (n .kind)) _ _ _ _ _ _ _ _ _ _ _ _
-        (record {
-          a = λ h. (stands w 0 h, stands u 0 h);
-          b = λ h. (ap w (same h) ∙ stands w 1 h, ap u (same h) ∙ stands u 1 h);
-          c = stands u 2;
-        })
-        ∙ sym (value-operator (problem s) i vs k)
+  -- and what it gives is the node's value
+  pub gives-value :
+      2 ≤ nodeAt s i .kind
+      → meaning (kindOf (nodeAt s i .kind)) (nodeAt s i .width) (widthAt s (nodeAt s i .a)) (widthAt s (nodeAt s i .b)) (nodeAt s i .b)
+      (getD vs (nodeAt s i .a) 0) (getD vs (nodeAt s i .b) 0) (getD vs (nodeAt s i .c) 0)
+      ≡ valueOf (problem s) vs i
+  unfolding problem widthAt
+  gives-value k =
+      let few = few-positions (n .kind) in
+      let stands : (f : ℕ → ℕ) (j : ℕ) → j < positions → f (at (ids n) j) ≡ at (three positions (λ k. f (at (ids n) k))) j =
+      λ f j h. sym (at-three positions (λ k. f (at (ids n) k)) j h few) in
+      let w : ℕ → ℕ = λ m. nodeAt s m .width in
+      let u : ℕ → ℕ = λ m. getD vs m 0 in
+      meaning-known (kindOf (n .kind)) _ _ _ _ _ _ _ _ _ _ _ _
+      (record { a = λ h. (stands w 0 h, stands u 0 h); b = λ h. (stands w 1 h, stands u 1 h); c = stands u 2 })
+      ∙ sym (value-operator (problem s) i vs k)
 
   pub own-value : nodeAt s i .kind ≡ 0 → getD vs i 0 ≡ valueOf (problem s) vs i
   unfolding problem

@@ -14,7 +14,7 @@ use Rattle.operators.specs.declared.fixed.Pair.{Pair}
 use Rattle.operators.specs.Fixed.{pair, pairOf}
 use Rattle.problem.specs.declared.layout.Node.{Node}
 use Rattle.problem.specs.declared.Checked.the-variants.{Accepted}
-use Rattle.problem.specs.Layout.{nodeCount, nodeAt, widthAt}
+use Rattle.problem.specs.Layout.{nodeCount, widthAt}
 use Rattle.problem.specs.Refusals.{checked}
 use Rattle.picking.specs.declared.spot.Three.{Three}
 use Rattle.picking.specs.declared.spot.Spot.{Spot}
@@ -64,9 +64,9 @@ operatorIn s n = record { kind = n .kind; width = n .width; wa = widthsIn s n .a
 abbrev pub Readable : List ℕ → ℕ → Type 0
 Readable s i = 9 + 24 * i + 24 ≤ length s
 
--- the operator of node n, read with b as its field b
-abbrev pub standingOp : List ℕ → Node → ℕ → Op
-standingOp s n b = record { kind = n .kind; width = n .width; wa = nodeAt s (n .a) .width; wb = nodeAt s b .width; low = n .b }
+-- the operator of node n, with the widths that stand at its fields a and b, whether its kind uses them or not
+abbrev pub standingOp : List ℕ → Node → Op
+standingOp s n = record { kind = n .kind; width = n .width; wa = widthAt s (n .a); wb = widthAt s (n .b); low = n .b }
 
 -- node i of an accepted problem s, where the places vs of the nodes below it hold values of their widths
 pub record Evaluable (s vs : List ℕ) (i : ℕ) : Type 0 where

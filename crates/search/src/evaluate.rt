@@ -1,51 +1,41 @@
 // Evaluation: every node's place set to its value, in ascending id.
 ghost use mathlib.Core.Path.{_≡_};
-ghost use Prim.Native.Nat.{_≤_, _<_};
 ghost use Rattle.search.specs.Problem.{problem, valueOf, evaluate as evaluated};
 ghost use Rattle.search.specs.Inner.{Readable, standingOp, Evaluable, Assigned};
 use operators::Op;
 use problem::Node;
 use problem::node_at;
 use problem::node_count;
+use problem::width_at;
 
-// Field b as a place up to i: itself, where it is an operand's id; an extract has its lowest bit there, which may be no id.
-fn second(b: u16, i: u16) -> u16
-    ensures { λ r. ⌜ (r ≤ i) × (b < i → r ≡ b) ⌝ }
-{
-    if b < i { b } else { i }
-}
-
-// The operator of a node, read with b as its field b.
-fn operator(bytes: &[u8], n: Node, b: u16) -> Op
-    requires { ⌜ Readable (now bytes) (n .a) × Readable (now bytes) b ⌝ }
-    ensures { λ r. ⌜ r ≡ standingOp (now (bytes .entry)) n b ⌝ }
+// The operator of a node. Field a is always some node's id, so its width is a plain read, which the compiler leaves to the one
+// kind that uses it; field b of an extract is a bit's number, so its width is asked for, and no kind's value uses it.
+fn operator(bytes: &[u8], n: Node) -> Op
+    requires { ⌜ Readable (now bytes) (n .a) ⌝ }
+    ensures { λ r. ⌜ r ≡ standingOp (now (bytes .entry)) n ⌝ }
 {
     Op {
         kind: n.kind,
         width: n.width as u32,
         wa: node_at(bytes, n.a).width as u32,
-        wb: node_at(bytes, b).width as u32,
+        wb: width_at(bytes, n.b) as u32,
         low: n.b as u32,
     }
 }
 
-// The value of node i: a variable's own place, a constant's lo, else what its operator gives. All three fields are read,
-// whether the kind uses them or not: what an unused one finds has no bearing, and to read costs less than to ask.
+// The value of node i: a variable's own place, a constant's lo, else what its operator gives. The operator is made before the
+// match, so that nothing stands between this match and the one in `value`, and the compiler makes one jump of both.
 fn value_at(bytes: &[u8], values: &[u64], i: u16) -> u64
     requires { ⌜ Evaluable (now bytes) (now values) i ⌝ }
     ensures { λ r. ⌜ r ≡ valueOf (problem (now (bytes .entry))) (now (values .entry)) i ⌝ }
 {
     let n = node_at(bytes, i);
-    let b = second(n.b, i);
-    let op = operator(bytes, n, b);
-    let x = values[n.a as usize];
-    let y = values[b as usize];
-    let z = values[n.c as usize];
+    let op = operator(bytes, n);
     let kind = n.kind;
     match kind {
         0 => values[i as usize],
         1 => n.lo,
-        _ => operators::value(op, x, y, z),
+        _ => operators::value(op, values, n.a, n.b, n.c),
     }
 }
 

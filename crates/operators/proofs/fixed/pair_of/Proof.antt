@@ -59,10 +59,10 @@ join-requires-2 : tie.Need-join-requires-2
 join-requires-2 c κs = join-asks _ _ _ _ _ (c .before .before .pre .ready .wide) (rw (c .before .match .keys11) at (c .before .before .pre .ready .fit))
 
 part-requires : tie.Need-part-requires
-part-requires c κs = (search needs, part-asks _ _ _ _ (search needs) (rw (last-kind _ (c .before .pre .ready .operator) (c .before .pre .ready .known) (c .match .rest)) at (c .before .pre .ready .fit)))
+part-requires c κs = (search needs, part-asks _ _ _ _ (search needs) (rw (last-kind (c .before .pre .ready) (c .match .rest)) at (c .before .pre .ready .fit)))
 
 part-requires-2 : tie.Need-part-requires-2
-part-requires-2 c κs = (search needs, part-asks _ _ _ _ (search needs) (rw (last-kind _ (c .before .before .pre .ready .operator) (c .before .before .pre .ready .known) (c .before .match .rest)) at (c .before .before .pre .ready .fit)))
+part-requires-2 c κs = (search needs, part-asks _ _ _ _ (search needs) (rw (last-kind (c .before .before .pre .ready) (c .before .match .rest)) at (c .before .before .pre .ready .fit)))
 
 returns : tie.Need-returns
 returns c = rw (c .before .before .match .keys1) (ap₂ pair (c .before .flip .ensures) (c .flip2 .ensures))
@@ -105,7 +105,7 @@ returns-11 c = rw (c .before .before .match .keys11) (ap₂ pair (c .before .joi
 
 returns-12 : tie.Need-returns-12
 returns-12 c =
-    rw (last-kind _ (c .before .before .before .pre .ready .operator) (c .before .before .before .pre .ready .known) (c .before .before .match .rest))
+    rw (last-kind (c .before .before .before .pre .ready) (c .before .before .match .rest))
     (ap₂ pair (c .before .part .ensures) (c .part2 .ensures))
 
 pub pair-of-spec : {M : Type 1} → statement M
