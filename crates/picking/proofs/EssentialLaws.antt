@@ -1,6 +1,6 @@
 -- Laws of essential positions: of one, of two, and of the positions of `if`.
 use mathlib.Core.Path.{_≡_, refl, sym, ap, _∙_, subst}
-use mathlib.Core.Bool.{Bool, true, false, not, _&&_, _||_}
+use mathlib.Core.Bool.{Bool, true, false, not, _||_}
 use mathlib.Core.Logic.{_⊎_, inl, inr, ⊎-elim}
 use Prim.Native.Nat.{ℕ, zero, suc, _-_, _/_, _%_, _^_, _≤_, _<_}
 use native.Mathlib.Omega.{arith}
@@ -9,7 +9,7 @@ use borrow.Author.Tests.{eqb-true, eqb-false}
 use Rattle.words.specs.declared.found.Found.{Found}
 use Rattle.words.specs.declared.found.Found.the-variants.{At, Nothing}
 use Rattle.words.specs.Agree.{Agrees, agrees-lt}
-use Rattle.words.specs.Decides.{Decides, decides-same}
+use Rattle.words.specs.Decides.{Decides, decides-same, decides-not, decides-eq}
 use Rattle.words.specs.Pick.{Empty, Picked, pick-member}
 use Rattle.operators.specs.Table.{kindOf}
 use Rattle.operators.specs.Meaning.{meaning}
@@ -22,30 +22,14 @@ use Rattle.picking.proofs.ChoiceLaws.{chosen-at}
 use Rattle.picking.proofs.SpotLaws.{slot-lt, count-at, rule-at, slot-at, two-by-two, other-of}
 
 -- ---- tests
-pub decides-and : (A B : Type 0) (a b : Bool) → Decides A a → Decides B b → Decides (A × B) (a && b)
-decides-and A B true true p q = (p, q)
-decides-and A B true false p q = λ m. q (m .1)
-decides-and A B false b p q = λ m. p (m .0)
-
 pub decides-or : (A B : Type 0) (a b : Bool) → Decides A a → Decides B b → Decides (A ⊎ B) (a || b)
 decides-or A B true b p q = inl p
 decides-or A B false true p q = inr q
 decides-or A B false false p q = ⊎-elim p q
 
-decides-not : (A : Type 0) (a : Bool) → Decides A a → Decides (A → ⊥) (not a)
-decides-not A true p = λ f. f p
-decides-not A false p = p
-
 pub decides-is : (a : Bool) → Decides (a ≡ true) a
 decides-is true = refl
 decides-is false = λ e. subst T (sym e) tt
-
-pub decides-eq : (x y : ℕ) → Decides (x ≡ y) (eqb x y)
-decides-eq x y = go (eqb x y) refl
-  where
-    go : (b : Bool) → eqb x y ≡ b → Decides (x ≡ y) b
-    go true e = eqb-true x y e
-    go false e = eqb-false x y e
 
 -- ---- of one position, as not and extract have: no others can help
 module _ (S : Spot) (F : Fair S) where

@@ -3,13 +3,15 @@ use crate::choice::branch;
 use crate::picks::pick;
 use crate::spot::Spot;
 use crate::spot::at;
+use crate::spot::marks;
 use words::Found;
 ghost use mathlib.Core.Path.{_≡_};
 ghost use mathlib.Core.Logic.{_⊎_};
-ghost use Prim.Native.Nat.{_≤_, _<_};
+ghost use Prim.Native.Nat.{_^_, _≤_, _<_};
 ghost use Rattle.words.specs.Decides.{Decides};
 ghost use Rattle.picking.specs.Spot.{positions, value, Fair, Essential, Asked};
 ghost use Rattle.picking.specs.Asks.{Had};
+ghost use Rattle.picking.specs.Marks.{Marks};
 
 // What a not or an extract gives on its current value.
 fn value_now(s: Spot) -> u64
@@ -102,5 +104,22 @@ pub fn essential(s: Spot, i: u32, t: u64) -> bool
         2 | 13 => essential_alone(s, t),
         11 => essential_of_if(s, i, t),
         _ => essential_of_two(s, i, t),
+    }
+}
+
+// The essential positions, each a bit. What the kind is, is asked once.
+pub fn essential_positions(s: Spot, t: u64) -> u32
+    requires { ⌜ Fair s × (t < 2 ^ s .width) ⌝ }
+    ensures { λ r. ⌜ Marks (Essential s t) (positions s) r ⌝ }
+{
+    let kind = s.kind;
+    match kind {
+        2 | 13 => marks(essential_alone(s, t), false, false),
+        11 => marks(
+            essential_condition(s, t),
+            essential_branch(s, 1, t),
+            essential_branch(s, 2, t),
+        ),
+        _ => marks(essential_of_two(s, 0, t), essential_of_two(s, 1, t), false),
     }
 }

@@ -14,7 +14,9 @@ mod spot;
 mod unions;
 
 pub use essentials::essential;
+pub use essentials::essential_positions;
 pub use picks::pick_consistent;
 pub use picks::pick_inverse;
 pub use spot::Spot;
 pub use spot::Three;
+pub use spot::marks;

@@ -17,6 +17,7 @@ use Rattle.problem.specs.Layout.{nodeAt, widthAt, rootAt}
 use Rattle.picking.specs.declared.spot.Spot.{Spot}
 use Rattle.picking.specs.Spot.{at, positions}
 use Rattle.search.specs.Problem.{Prob, Pairs, problem, three, count, arg, Variable, spotOf, spot, pairs}
+use Rattle.search.specs.Positions.{past-three}
 use Rattle.search.specs.Step.{Lists, Lists.done, Lists.keep, Lists.skip, Out, goes, blocked, Step}
 use Rattle.search.specs.Run.{End, sets, stuck, short, Walk, Walk.arrives, Walk.unserved, Walk.stops, Walk.onward, Unsatisfied, AllOne, Move, Move.no-word, Move.from-root}
 use Rattle.search.specs.Good.{Good}
@@ -74,6 +75,7 @@ module _ (s los his vs : List ℕ) (n : ℕ) where
     stepping t a =
         record {
           fair = λ h. spot-fair (problem s) good vs (W .held) n l (inner-kind (problem s .kind n) h);
+          past = λ i h u. past-three (count (problem s) n) _ i h u ∙ sym (past-three (count (problem s) n) _ i h u);
           target = agrees-lt (problem s .width n) (pairs-ternary (problem s) good n l .short) a;
         }
 

@@ -18,9 +18,9 @@ use Rattle.problem.specs.Layout.{nodeCount, widthAt}
 use Rattle.problem.specs.Refusals.{checked}
 use Rattle.picking.specs.declared.spot.Three.{Three}
 use Rattle.picking.specs.declared.spot.Spot.{Spot}
-use Rattle.picking.specs.Spot.{at, positions, Candidate, Fair}
+use Rattle.picking.specs.Spot.{at, positions, Fair}
+use Rattle.picking.specs.Marks.{marked}
 use Rattle.search.specs.declared.operands.Widths.{Widths}
-use Rattle.search.specs.declared.step.Positions.{Positions}
 use Rattle.search.specs.declared.moves.Stop.{Stop}
 use Rattle.search.specs.declared.moves.Stop.the-variants.{Sets, Stuck, Short}
 use Rattle.search.specs.Problem.{oneOf, three, problem, Pairs, noPairs, fillUp, pairs}
@@ -144,38 +144,32 @@ abbrev pub outOf : ℕ → Found → Out
 outOf i (At v) = goes i v
 outOf i Nothing = blocked
 
--- so many positions of a list whose last comes first, in order
-abbrev pub inOrder : ℕ → Three → List ℕ
-inOrder zero l = []
-inOrder (suc n) l = inOrder n (record { a = l .b; b = l .c; c = 0 }) ++ (l .a ∷ [])
-
--- the positions that p holds, in order
-abbrev pub shown : Positions → List ℕ
-shown p = inOrder (p .count) (p .list)
-
-abbrev pub none : Positions
-none = record { list = record { a = 0; b = 0; c = 0 }; count = 0 }
-
 abbrev pub grown : Bool → List ℕ → ℕ → List ℕ
 grown true l i = l ++ (i ∷ [])
 grown false l i = l
 
-pub record Kept (p : Positions) (i : ℕ) (yes : Bool) (r : Positions) : Type 0 where
-  pub few : r .count ≤ p .count + 1
-  pub shows : shown r ≡ grown yes (shown p) i
+-- those of the first n positions that m marks, in order
+abbrev pub members : ℕ → ℕ → List ℕ
+members zero m = []
+members (suc n) m = grown (marked m n) (members n m) n
+
+-- of all three positions
+unfoldable pub listed : ℕ → List ℕ
+listed m = members 3 m
 
 -- the operand at position i is not fully fixed
 abbrev pub Open : Spot → ℕ → Type 0
 Open S i = at (S .los) i ≡ at (S .his) i → ⊥
 
--- what a step is given: where the node has positions, its facts; and a target of its width
+-- past the positions that the node has, the pairs are fully fixed
+abbrev pub FixedPast : Spot → Type 0
+FixedPast S = (i : ℕ) → positions S ≤ i → i < 3 → at (S .los) i ≡ at (S .his) i
+
+-- what a step is given: where the node has positions, its facts; no open position but those; and a target of its width
 pub record Stepping (S : Spot) (t : ℕ) : Type 0 where
   pub fair : 0 < positions S → Fair S
+  pub past : FixedPast S
   pub target : t < 2 ^ S .width
-
-pub record Candidates (S : Spot) (t : ℕ) (r : Positions) : Type 0 where
-  pub few : r .count ≤ 3
-  pub lists : Lists (Candidate S t) (positions S) (shown r)
 
 -- ---- moves.rt
 

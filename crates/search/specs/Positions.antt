@@ -4,7 +4,7 @@ use mathlib.Core.Bool.{Bool, true, false}
 use Prim.Native.Nat.{ℕ, zero, suc, _≤_, _<_}
 use native.Mathlib.Omega.{arith}
 use lib.Dec.{ltb}
-use borrow.Author.Tests.{lt-ltb, ltb-true}
+use borrow.Author.Tests.{lt-ltb, le-ltb, ltb-true}
 use Rattle.picking.specs.declared.spot.Three.{Three}
 use Rattle.picking.specs.Spot.{at}
 use Rattle.search.specs.Problem.{oneOf, three}
@@ -18,6 +18,9 @@ at-is c f (suc (suc (suc i))) h = absurd (omega arith)
 
 pub at-three : (c : ℕ) (f : ℕ → ℕ) (i : ℕ) → i < c → c ≤ 3 → at (three c f) i ≡ f i
 at-three c f i h l = at-is c f i (omega arith) ∙ rw (lt-ltb i c h)
+
+pub past-three : (c : ℕ) (f : ℕ → ℕ) (i : ℕ) → c ≤ i → i < 3 → at (three c f) i ≡ 0
+past-three c f i h l = at-is c f i l ∙ rw (le-ltb i c h)
 
 -- three numbers are known by their positions
 three-ext : (x y : Three) → ((i : ℕ) → i < 3 → at x i ≡ at y i) → x ≡ y

@@ -1,23 +1,20 @@
 // One step of a move, at one node: its candidates, the one that is followed, and the pick there.
 ghost use mathlib.Core.Path.{_≡_};
 ghost use Prim.Native.Nat.{_/_, _%_, _≤_, _<_};
-ghost use Rattle.words.specs.Decides.{Decides};
-ghost use Rattle.picking.specs.Spot.{at, Asked};
+ghost use lib.ListN.{length, getD};
+ghost use Rattle.picking.specs.Spot.{positions, Candidate, Asked};
+ghost use Rattle.picking.specs.Marks.{Marks};
 ghost use Rattle.search.specs.Step.{Step as StepMade, Follows};
-ghost use Rattle.search.specs.Inner.{outOf, none, Kept, Open, Stepping, Candidates};
-use operators::operand_count;
+ghost use Rattle.search.specs.Inner.{outOf, listed, Open, FixedPast, Stepping};
 use picking::Spot;
-use picking::Three;
-use picking::essential;
+use picking::essential_positions;
+use picking::marks;
 use picking::pick_consistent;
 use picking::pick_inverse;
 use words::Found;
 
-// Some of a node's positions, so many, the last first. (Not an array: three numbers stay out of memory.)
-pub(crate) struct Positions {
-    pub list: Three,
-    pub count: u64,
-}
+// The position numbered k among those that a number m marks, for each k and m: in the k-th sixteen bits the m-th two.
+const PLACES: u64 = 0x8000_6840_1210;
 
 // What a step comes to: the position that is followed, and the pick there.
 pub(crate) struct Way {
@@ -25,73 +22,47 @@ pub(crate) struct Way {
     pub found: Found,
 }
 
-// What stands at a position.
-fn held_at(x: Three, i: u32) -> u64
-    ensures { λ r. ⌜ r ≡ at x i ⌝ }
-{
-    if i == 0 {
-        return x.a;
-    }
-    if i == 1 {
-        return x.b;
-    }
-    x.c
-}
-
-// Whether the operand at a position is not fully fixed.
-fn open_at(s: Spot, i: u32) -> bool
-    ensures { λ r. ⌜ Decides (Open s i) r ⌝ }
+// The positions whose operand is not fully fixed, each a bit. (Those that the kind has not hold pairs that are.)
+fn open_positions(s: Spot) -> u32
+    requires { ⌜ FixedPast s ⌝ }
+    ensures { λ r. ⌜ Marks (Open s) (positions s) r ⌝ }
 {
     let lo = s.los;
     let hi = s.his;
-    held_at(lo, i) != held_at(hi, i)
-}
-
-// No positions.
-fn no_positions() -> Positions
-    ensures { λ r. ⌜ r ≡ none ⌝ }
-{
-    let list = Three { a: 0, b: 0, c: 0 };
-    Positions { list, count: 0 }
-}
-
-// The positions p, and i after them if it is to be kept.
-fn kept(p: Positions, i: u32, yes: bool) -> Positions
-    requires { ⌜ p .count ≤ 2 ⌝ }
-    ensures { λ r. ⌜ Kept p i yes r ⌝ }
-{
-    if yes {
-        let before = p.list;
-        let list = Three {
-            a: i as u64,
-            b: before.a,
-            c: before.b,
-        };
-        let count = p.count + 1;
-        return Positions { list, count };
-    }
-    p
+    marks(lo.a != hi.a, lo.b != hi.b, lo.c != hi.c)
 }
 
 // "Candidates are the essential positions if there are any, else all; then those whose operand is fully fixed are dropped."
-fn candidates(s: Spot, t: u64) -> Positions
+fn candidates(s: Spot, t: u64) -> u32
     requires { ⌜ Stepping s t ⌝ }
-    ensures { λ r. ⌜ Candidates s t r ⌝ }
+    ensures { λ r. ⌜ Marks (Candidate s t) (positions s) r ⌝ }
 {
-    let n = operand_count(s.kind) as u32;
-    let mut any = false;
-    let mut essentials = no_positions();
-    let mut opens = no_positions();
-    let mut i: u32 = 0;
-    while i < n {
-        let needed = essential(s, i, t);
-        let open = open_at(s, i);
-        any = any | needed;
-        essentials = kept(essentials, i, needed & open);
-        opens = kept(opens, i, open);
-        i += 1;
+    // None is open, or the node has no positions: nothing else need be asked.
+    let opens = open_positions(s);
+    if opens == 0 {
+        return 0;
     }
-    if any { essentials } else { opens }
+    let essentials = essential_positions(s, t);
+    if essentials == 0 {
+        return opens;
+    }
+    essentials & opens
+}
+
+// How many positions m marks: of each bit, 1, 2 or 4, its half and its quarter leave 1.
+fn count(m: u32) -> u64
+    requires { ⌜ m < 8 ⌝ }
+    ensures { λ r. ⌜ r ≡ length (listed m) ⌝ }
+{
+    (m - m / 2 - m / 4) as u64
+}
+
+// The position numbered k among those that m marks. (Looked up: which one it is, no branch would guess.)
+fn numbered(m: u32, k: u64) -> u32
+    requires { ⌜ (m < 8) × (k < length (listed m)) ⌝ }
+    ensures { λ r. ⌜ r ≡ getD (listed m) k 0 ⌝ }
+{
+    ((PLACES >> (2 * m + 16 * (k as u32))) % 4) as u32
 }
 
 // "If e is even and the inverse set has members, pick there with p; otherwise pick in the consistent set."
@@ -126,17 +97,16 @@ pub(crate) fn step(s: Spot, t: u64, e: u64, p: u64) -> Way
     requires { ⌜ Stepping s t ⌝ }
     ensures { λ r. ⌜ StepMade s t e p (outOf (r .position) (r .found)) ⌝ }
 {
-    let c = candidates(s, t);
-    let n = c.count;
+    let m = candidates(s, t);
+    let n = count(m);
     if n == 0 {
         return Way {
             position: 0,
             found: Found::Nothing,
         };
     }
-    let list = c.list;
     let k = chosen(e, n);
-    let i = held_at(list, (n - 1 - k) as u32) as u32;
+    let i = numbered(m, k);
     let found = pick_at(s, t, e, p, i);
     Way { position: i, found }
 }

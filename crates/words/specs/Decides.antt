@@ -1,6 +1,9 @@
 -- What a test answers: true exactly where the fact that it tests holds.
 use mathlib.Core.Path.{_≡_, refl, subst}
-use mathlib.Core.Bool.{Bool, true, false}
+use mathlib.Core.Bool.{Bool, true, false, not, _&&_}
+use Prim.Native.Nat.{ℕ}
+use lib.Dec.{eqb}
+use borrow.Author.Tests.{eqb-true, eqb-false}
 
 abbrev pub Decides : Type 0 → Bool → Type 0
 Decides A true = A
@@ -24,3 +27,21 @@ decides-no A r d e = subst (Decides A) e d
 pub decides-same : (A B : Type 0) → (A → B) → (B → A) → (r : Bool) → Decides A r → Decides B r
 decides-same A B to back true a = to a
 decides-same A B to back false a = λ b. a (back b)
+
+-- ---- tests made of tests
+
+pub decides-eq : (x y : ℕ) → Decides (x ≡ y) (eqb x y)
+decides-eq x y = go (eqb x y) refl
+  where
+    go : (b : Bool) → eqb x y ≡ b → Decides (x ≡ y) b
+    go true e = eqb-true x y e
+    go false e = eqb-false x y e
+
+pub decides-not : (A : Type 0) (a : Bool) → Decides A a → Decides (A → ⊥) (not a)
+decides-not A true p = λ f. f p
+decides-not A false p = p
+
+pub decides-and : (A B : Type 0) (a b : Bool) → Decides A a → Decides B b → Decides (A × B) (a && b)
+decides-and A B true true p q = (p, q)
+decides-and A B true false p q = λ m. q (m .1)
+decides-and A B false b p q = λ m. p (m .0)
