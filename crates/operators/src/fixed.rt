@@ -109,7 +109,7 @@ fn below_pair(p: Pair, q: Pair) -> Pair
 
 // shl: with a fixed amount the shifted pair, else all free.
 fn left_pair(p: Pair, q: Pair, w: u32) -> Pair
-    requires { ⌜ w ≤ 64 ⌝ }
+    requires { ⌜ (1 ≤ w) × (w ≤ 64) ⌝ }
     ensures { λ r. ⌜ r ≡ shlPair w p q ⌝ }
 {
     let s = q.lo;

@@ -17,34 +17,38 @@ pub struct Op {
 
 // not a, of w bits.
 pub fn flip(a: u64, w: u32) -> u64
-    requires { ⌜ (w ≤ 64) × (a < 2 ^ w) ⌝ }
+    requires { ⌜ (1 ≤ w) × (w ≤ 64) × (a < 2 ^ w) ⌝ }
     ensures { λ r. ⌜ r ≡ (2 ^ w - 1) - a ⌝ }
 {
-    words::cut(!a, w)
+    words::to_width(!a, w)
 }
 
 // a + b modulo 2^w.
 fn sum(a: u64, b: u64, w: u32) -> u64
-    requires { ⌜ w ≤ 64 ⌝ }
+    requires { ⌜ (1 ≤ w) × (w ≤ 64) ⌝ }
     ensures { λ r. ⌜ r ≡ (a + b) % 2 ^ w ⌝ }
 {
-    words::cut(std::num::wrapping_add_u64(a, b), w)
+    words::to_width(std::num::wrapping_add_u64(a, b), w)
 }
 
 // a · b modulo 2^w.
 fn product(a: u64, b: u64, w: u32) -> u64
-    requires { ⌜ w ≤ 64 ⌝ }
+    requires { ⌜ (1 ≤ w) × (w ≤ 64) ⌝ }
     ensures { λ r. ⌜ r ≡ (a * b) % 2 ^ w ⌝ }
 {
-    words::cut(words::wrapping_mul(a, b), w)
+    words::to_width(words::wrapping_mul(a, b), w)
 }
 
 // a shifted left by any amount, modulo 2^w.
 pub(crate) fn left(a: u64, b: u64, w: u32) -> u64
-    requires { ⌜ w ≤ 64 ⌝ }
+    requires { ⌜ (1 ≤ w) × (w ≤ 64) ⌝ }
     ensures { λ r. ⌜ r ≡ (a * 2 ^ b) % 2 ^ w ⌝ }
 {
-    if b < 64 { words::cut(a << b, w) } else { 0 }
+    if b < 64 {
+        words::to_width(a << b, w)
+    } else {
+        0
+    }
 }
 
 // a shifted right by any amount.
@@ -64,10 +68,10 @@ pub(crate) fn join(a: u64, b: u64, k: u32) -> u64
 
 // The w bits of a from bit k on.
 pub fn part(a: u64, k: u32, w: u32) -> u64
-    requires { ⌜ (w ≤ 64) × (k < 64) ⌝ }
+    requires { ⌜ (1 ≤ w) × (w ≤ 64) × (k < 64) ⌝ }
     ensures { λ r. ⌜ r ≡ a / 2 ^ k % 2 ^ w ⌝ }
 {
-    words::cut(a >> k, w)
+    words::to_width(a >> k, w)
 }
 
 // What a list has at an id.

@@ -20,6 +20,9 @@ equal p q = p ∙ sym q
 pub cut-determined : (x n r s : ℕ) → r ≡ x % 2 ^ n → s ≡ x % 2 ^ n → r ≡ s
 cut-determined x n r s = equal
 
+pub to-width-determined : (x n r s : ℕ) → r ≡ x % 2 ^ n → s ≡ x % 2 ^ n → r ≡ s
+to-width-determined x n r s = equal
+
 pub and-not-determined : (a b r s : ℕ) → r ≡ less a b → s ≡ less a b → r ≡ s
 and-not-determined a b r s = equal
 

@@ -4,17 +4,17 @@ use Prim.Native.Nat.{ℕ, _+_, _-_, _*_, _/_, _%_, _^_, _≤_, _<_}
 use native.Mathlib.Nat.{mod-eq-of-lt, one-mul, mul-assoc, mul-mod-left, div-eq-of-lt, lt-of-lt-of-le}
 use native.Mathlib.Omega.{arith}
 use lib.Bits.{bitOr, or-shifted}
-use lib.Pow.{pow-lt, pow-add, pow-mono, ones-split, ones-lt, high, shl-exact}
+use lib.Pow.{pow-lt, pow-add, pow-mono, field, shl-exact, shl-shr}
 
 pub one-shl : (k w : ℕ) → k < w → 1 * 2 ^ k % 2 ^ w ≡ 2 ^ k
 one-shl k w h = ap (λ (n : ℕ). n % 2 ^ w) (one-mul (2 ^ k)) ∙ mod-eq-of-lt (pow-lt h)
 
--- the w low bits of a full word of W
-pub mask-law : (W w : ℕ) → w ≤ W → (2 ^ W - 1) / 2 ^ (W - w) ≡ 2 ^ w - 1
-mask-law W w h =
-    let e : w + (W - w) ≡ W = omega arith in
-    ap (λ (n : ℕ). (2 ^ n - 1) / 2 ^ (W - w)) (sym e) ∙ ap (λ (x : ℕ). x / 2 ^ (W - w)) (ones-split w (W - w))
-    ∙ high (2 ^ w - 1) (W - w) (ones-lt (W - w))
+-- shifted to the left and back, a word of W bits keeps its w low bits
+pub there-and-back : (x W w : ℕ) → w ≤ W → x * 2 ^ (W - w) % 2 ^ W / 2 ^ (W - w) ≡ x % 2 ^ w
+there-and-back x W w h =
+    let e : W ≡ w + (W - w) = omega arith in
+    ap (λ (n : ℕ). x * 2 ^ (W - w) % 2 ^ n / 2 ^ (W - w)) e ∙ field (x * 2 ^ (W - w)) w (W - w)
+    ∙ ap (λ (n : ℕ). n % 2 ^ w) (shl-shr x (W - w))
 
 -- all is shifted out to the left
 pub out-left : (a b w : ℕ) → w ≤ b → 0 ≡ (a * 2 ^ b) % 2 ^ w

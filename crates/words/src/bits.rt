@@ -24,6 +24,15 @@ pub fn cut(x: u64, n: u32) -> u64
     low_bits(x, n)
 }
 
+// x cut to a width of 1 to 64 bits: as there is at least one, two shifts do it without a test.
+pub fn to_width(x: u64, w: u32) -> u64
+    requires { ⌜ (1 ≤ w) × (w ≤ 64) ⌝ }
+    ensures { λ r. ⌜ r ≡ x % 2 ^ w ⌝ }
+{
+    let k = 64 - w;
+    (x << k) >> k
+}
+
 // The bits of a that are not in b.
 pub fn and_not(a: u64, b: u64) -> u64
     ensures { λ r. ⌜ r ≡ less a b ⌝ }

@@ -10,6 +10,7 @@ pub use bits::and_not;
 pub use bits::cut;
 pub use bits::low_bit;
 pub use bits::set_low;
+pub use bits::to_width;
 pub use bits::top_bit;
 pub use found::Found;
 pub use found::lesser_of;

@@ -11,13 +11,13 @@ use Rattle.operators.proofs.fixed.pair_of.Statement.{statement}
 use Rattle.operators.proofs.fixed.pair_of.Tie as tie
 
 flip-requires : tie.Need-flip-requires
-flip-requires c κs = (search needs, rw (c .match .keys1) at (c .before .pre .ready .fit))
+flip-requires c κs = (search needs, search needs, rw (c .match .keys1) at (c .before .pre .ready .fit))
 
 flip-requires-2 : tie.Need-flip-requires-2
 flip-requires-2 c κs =
     let s = c .before .before in
     let e = c .before .match .keys1 in
-    (search needs, lo-lt ((rw e at (s .pre .ordered)) .a (omega arith)) (rw e at (s .pre .ready .fit)))
+    (search needs, search needs, lo-lt ((rw e at (s .pre .ordered)) .a (omega arith)) (rw e at (s .pre .ready .fit)))
 
 xor-pair-requires : tie.Need-xor-pair-requires
 xor-pair-requires c κs = search needs
@@ -59,10 +59,10 @@ join-requires-2 : tie.Need-join-requires-2
 join-requires-2 c κs = join-asks _ _ _ _ _ (c .before .before .pre .ready .wide) (rw (c .before .match .keys11) at (c .before .before .pre .ready .fit))
 
 part-requires : tie.Need-part-requires
-part-requires c κs = (search needs, part-asks _ _ _ _ (search needs) (rw (last-kind (c .before .pre .ready) (c .match .rest)) at (c .before .pre .ready .fit)))
+part-requires c κs = (search needs, search needs, part-asks _ _ _ _ (search needs) (rw (last-kind (c .before .pre .ready) (c .match .rest)) at (c .before .pre .ready .fit)))
 
 part-requires-2 : tie.Need-part-requires-2
-part-requires-2 c κs = (search needs, part-asks _ _ _ _ (search needs) (rw (last-kind (c .before .before .pre .ready) (c .before .match .rest)) at (c .before .before .pre .ready .fit)))
+part-requires-2 c κs = (search needs, search needs, part-asks _ _ _ _ (search needs) (rw (last-kind (c .before .before .pre .ready) (c .before .match .rest)) at (c .before .before .pre .ready .fit)))
 
 returns : tie.Need-returns
 returns c = rw (c .before .before .match .keys1) (ap₂ pair (c .before .flip .ensures) (c .flip2 .ensures))

@@ -6,11 +6,11 @@ use Rattle.operators.proofs.Parts.{flipped}
 use Rattle.operators.proofs.meaning.flip.Statement.{statement}
 use Rattle.operators.proofs.meaning.flip.Tie as tie
 
-cut-requires : tie.Need-cut-requires
-cut-requires c κs = search needs
+to-width-requires : tie.Need-to-width-requires
+to-width-requires c κs = search needs
 
 returns : tie.Need-returns
-returns c = c .cut .ensures ∙ flipped (c .before .args .a) (c .before .args .w) 64 (omega arith) (omega arith)
+returns c = c .to-width .ensures ∙ flipped (c .before .args .a) (c .before .args .w) 64 (omega arith) (omega arith)
 
 pub flip-spec : {M : Type 1} → statement M
-flip-spec = tie.close (tie.spec cut-requires returns)
+flip-spec = tie.close (tie.spec to-width-requires returns)

@@ -10,11 +10,11 @@ use Rattle.operators.proofs.meaning.product.Tie as tie
 wrapping-mul-requires : tie.Need-wrapping-mul-requires
 wrapping-mul-requires c κs = search needs
 
-cut-requires : tie.Need-cut-requires
-cut-requires c κs = search needs
+to-width-requires : tie.Need-to-width-requires
+to-width-requires c κs = search needs
 
 returns : tie.Need-returns
-returns c = c .cut .ensures ∙ recut _ (c .before .before .args .a * c .before .before .args .b) 64 _ (c .before .wrapping-mul .ensures) (omega arith)
+returns c = c .to-width .ensures ∙ recut _ (c .before .before .args .a * c .before .before .args .b) 64 _ (c .before .wrapping-mul .ensures) (omega arith)
 
 pub product-spec : {M : Type 1} → statement M
-product-spec = tie.close (tie.spec wrapping-mul-requires cut-requires returns)
+product-spec = tie.close (tie.spec wrapping-mul-requires to-width-requires returns)

@@ -10,7 +10,7 @@ read-requires : tie.Need-read-requires
 read-requires c κs = search needs
 
 flip-requires : tie.Need-flip-requires
-flip-requires c κs = (search needs, rw (c .read .ensures) (rw (c .before .match .keys1) at (c .before .before .before .pre .ready .fit)))
+flip-requires c κs = (search needs, search needs, rw (c .read .ensures) (rw (c .before .match .keys1) at (c .before .before .before .pre .ready .fit)))
 
 read-requires-2 : tie.Need-read-requires-2
 read-requires-2 c κs = search needs
@@ -104,7 +104,7 @@ read-requires-23 : tie.Need-read-requires-23
 read-requires-23 c κs = search needs
 
 part-requires : tie.Need-part-requires
-part-requires c κs = (search needs, part-asks _ _ _ _ (search needs) (rw (last-kind (c .before .before .before .pre .ready) (c .before .match .rest)) at (c .before .before .before .pre .ready .fit)))
+part-requires c κs = (search needs, search needs, part-asks _ _ _ _ (search needs) (rw (last-kind (c .before .before .before .pre .ready) (c .before .match .rest)) at (c .before .before .before .pre .ready .fit)))
 
 returns : tie.Need-returns
 returns c = rw (c .before .before .match .keys1, ← c .before .read .ensures) (c .flip .ensures)
