@@ -1,3 +1,4 @@
+-- Laws for the proofs of this crate's functions.
 pub mod Nodes
 pub mod Steps
 pub mod Places
