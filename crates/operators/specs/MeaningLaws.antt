@@ -92,11 +92,6 @@ pub fit-used : (o : Kind) (w wa wb wc low x y z : ℕ) → RuleMet (shape o .rul
     → Used (shape o .operands) (x < 2 ^ wa) (y < 2 ^ wb) (z < 2 ^ wc) → Fit (shape o .rule) w wa wb low x y z
 fit-used o w wa wb wc low x y z m h u = fit-rule (shape o .rule) w wa wb wc low x y z m (rw (takes-is o) h) (rw (takes-is o) u)
 
-pub fit-of : (r : Rule) (w wa wb wc low x y z : ℕ) → RuleMet r w wa wb wc low → 1 ≤ wa → wa ≤ 64 → x < 2 ^ wa → y < 2 ^ wb → z < 2 ^ wc
-    → Fit r w wa wb low x y z
-fit-of r w wa wb wc low x y z m s t hx hy hz =
-    fit-rule r w wa wb wc low x y z m (λ _. (s, t)) (record { a = λ _. hx; b = λ _. hy; c = λ _. hz })
-
 -- ---- only the operands that the kind has bear on the value
 
 -- v at a position that is among the first n, and 0 at another

@@ -194,11 +194,3 @@ module _ {s : List ℕ} (F : Facts s) where
 
   pub root-inside : (j : ℕ) → j < rootCount s → rootStart s j + 2 ≤ length s
   root-inside j l = let w = F .header .whole in omega arith
-
-  pub widthAt-some : (i : ℕ) → i < nodeCount s → 0 < widthAt s i
-  unfolding widthAt
-  widthAt-some i l = F .node i l .width-some
-
-  pub widthAt-most : (i : ℕ) → i < nodeCount s → widthAt s i ≤ 64
-  unfolding widthAt
-  widthAt-most i l = F .node i l .width-most

@@ -3,7 +3,7 @@ use mathlib.Core.Path.{_≡_, refl, sym, ap, _∙_, subst}
 use mathlib.Core.List.{List, [], _∷_, _++_}
 use Prim.Native.Nat.{ℕ, zero, suc, _+_, _*_, _-_, _%_, _≤_, _<_}
 use native.Mathlib.Omega.{arith}
-use native.Mathlib.Nat.{not-suc-le-zero, add-zero, mod-lt}
+use native.Mathlib.Nat.{not-suc-le-zero, add-zero}
 use native.Mathlib.Numerals.{add-one}
 use native.Mathlib.Decide.{ℕ-discrete}
 use lib.ListN.{length, getD, drop, length-drop, length-append, List·getD-append}
@@ -15,10 +15,10 @@ use Rattle.operators.specs.Table.{shapeOf}
 use Rattle.problem.specs.declared.layout.Node.{Node}
 use Rattle.problem.specs.Layout.{nodeAt, widthAt, rootAt}
 use Rattle.picking.specs.declared.spot.Spot.{Spot}
-use Rattle.picking.specs.Spot.{at, positions}
+use Rattle.picking.specs.Spot.{at}
 use Rattle.search.specs.Problem.{Prob, Pairs, problem, three, count, arg, Variable, spotOf, spot, pairs}
 use Rattle.search.specs.Positions.{past-three}
-use Rattle.search.specs.Step.{Lists, Lists.done, Lists.keep, Lists.skip, Out, goes, blocked, Step}
+use Rattle.search.specs.Step.{Lists, Lists.done, Lists.keep, Lists.skip, Out, goes, Step}
 use Rattle.search.specs.Run.{End, sets, stuck, short, Walk, Walk.arrives, Walk.unserved, Walk.stops, Walk.onward, Unsatisfied, AllOne, Move, Move.no-word, Move.from-root}
 use Rattle.search.specs.Good.{Good}
 use Rattle.search.specs.GoodLaws.{good-of}
@@ -28,7 +28,7 @@ use Rattle.search.specs.SpotLaws.{spot-fair}
 use Rattle.search.specs.Decide.{Stands, lists-find, lists-member}
 use Rattle.search.specs.Determined.{lists-unique}
 use Rattle.search.specs.MoveLaws.{Aimed, Next, step-next, root-aimed}
-use Rattle.search.specs.Inner.{ids, OperandsBelow, heldIn, widthsIn, Filled, pairsOf, Spotted, spotIn, outOf, Stepping, Searching, Walking, Count, Nth}
+use Rattle.search.specs.Inner.{ids, OperandsBelow, heldIn, widthsIn, Filled, Spotted, spotIn, outOf, Stepping, Searching, Walking, Count, Nth}
 
 -- ---- the tape, by places
 

@@ -35,11 +35,6 @@ pub length-zeros : length zeros ≡ 1024
 unfolding zeros
 length-zeros = length-replicate {A = ℕ} 1024 0
 
--- what code makes by [0; 1024]
-pub zeros-of : (l : List ℕ) → l ≡ replicate 1024 0 → l ≡ zeros
-unfolding zeros
-zeros-of l e = e
-
 module _ (P : Prob) where
   -- both lists have 1,024 places
   pub length-fillUp : (i : ℕ) → (length (fillUp P i noPairs .los) ≡ 1024) × (length (fillUp P i noPairs .his) ≡ 1024)

@@ -1,6 +1,6 @@
 -- What is asked of a node as it is taken out of its problem: by its operator's value and pair, and by picking.
 use mathlib.Core.List.{List}
-use Prim.Native.Nat.{ℕ, _^_, _≤_, _<_}
+use Prim.Native.Nat.{ℕ, _≤_, _<_}
 use lib.ListN.{getD}
 use Rattle.operators.specs.declared.meaning.Op.{Op}
 use Rattle.operators.specs.declared.fixed.Pair.{Pair}
@@ -10,7 +10,7 @@ use Rattle.picking.specs.declared.spot.Spot.{Spot}
 use Rattle.picking.specs.Spot.{at, Fair}
 use Rattle.search.specs.Problem.{Prob, Pairs, count, arg, spotOf, spot, pairs}
 use Rattle.search.specs.Good.{Good, GoodNode, Held, NodesAgree}
-use Rattle.search.specs.NodeLaws.{pairIn, at-column, operands, operand-node, width-at, fit-at, node-ready, pairs-ready}
+use Rattle.search.specs.NodeLaws.{pairIn, at-column, operand-node, width-at, pairs-ready}
 use Rattle.search.specs.PairLaws.{pairs-ternary, every-node}
 
 -- the operator of a node in its place, and the pairs of its positions
@@ -23,13 +23,6 @@ pairOn S j = pair (at (S .los) j) (at (S .his) j)
 module _ (P : Prob) (g : Good P) (n : ℕ) (l : n < P .nodes) (k : 2 ≤ P .kind n) (w : Pairs) (vs : List ℕ) where
   here : GoodNode P n
   here = g .node n l
-
-  -- operands of their widths: what `operators::value` asks
-  pub spot-ready :
-      ((i : ℕ) → i < count P n → getD vs (arg P n i) 0 < 2 ^ P .width (arg P n i))
-      → Ready (opOf (spotOf P w vs n)) (spotOf P w vs n .current .a) (spotOf P w vs n .current .b) (spotOf P w vs n .current .c)
-  unfolding spotOf
-  spot-ready h = node-ready P g n l k (operands P vs n) (fit-at P g n l (λ m. getD vs m 0) h)
 
   -- pairs of the operands' widths: what `operators::pair_of` asks
   pub spot-pairs-ready :

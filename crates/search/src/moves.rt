@@ -1,7 +1,6 @@
 // Moves: from an unsatisfied root entry down to a variable, step by step.
-ghost use mathlib.Core.Path.{_≡_};
 ghost use Prim.Native.Nat.{_+_, _<_, _≤_};
-ghost use lib.ListN.{drop, getD, length};
+ghost use lib.ListN.{drop, length};
 ghost use Rattle.search.specs.Problem.{problem};
 ghost use Rattle.search.specs.Run.{Walk, Move, Unsatisfied};
 ghost use Rattle.search.specs.Inner.{Searching, Walking, Moving, endOf, Placed, Count, Nth};

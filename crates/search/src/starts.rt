@@ -1,10 +1,9 @@
 // Refusals of a call: 1 to 13 by the problem check, then 14 and 15.
 ghost use mathlib.Core.Path.{_≡_};
-ghost use Prim.Native.Nat.{_≤_, _<_};
-ghost use lib.ListN.{length};
+ghost use Prim.Native.Nat.{_<_};
 ghost use Rattle.problem.specs.declared.Checked.the-variants.{Accepted};
 ghost use Rattle.problem.specs.Layout.{nodeCount};
-ghost use Rattle.problem.specs.Refusals.{checked, firstBelow};
+ghost use Rattle.problem.specs.Refusals.{firstBelow};
 ghost use Rattle.search.specs.Call.{startFault, refusals};
 ghost use Rattle.search.specs.Inner.{Lent};
 use problem::Checked;

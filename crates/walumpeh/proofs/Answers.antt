@@ -1,8 +1,8 @@
 -- The answers of the C interface about a single node, by the tests that lead there.
-use mathlib.Core.Path.{_≡_, refl, sym, ap, _∙_, subst}
+use mathlib.Core.Path.{_≡_, refl}
 use mathlib.Core.Bool.{Bool, true, false}
 use mathlib.Core.List.{List}
-use Prim.Native.Nat.{ℕ, zero, suc, _%_, _^_, _<_}
+use Prim.Native.Nat.{ℕ, zero, suc, _%_, _^_}
 use native.Mathlib.Omega.{arith}
 use lib.ListN.{length, set}
 use mir.Val.{boolByte}

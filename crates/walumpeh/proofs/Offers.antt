@@ -1,5 +1,5 @@
 -- What each test of a spot from outside decides, over the answers of the tests that it joins.
-use mathlib.Core.Path.{_≡_, refl, sym, ap, _∙_, subst}
+use mathlib.Core.Path.{_≡_, sym, ap, _∙_, subst}
 use mathlib.Core.Bool.{Bool, true, _&&_, _||_}
 use Prim.Native.Nat.{ℕ, zero, suc, _%_, _^_, _≤_, _<_}
 use native.Mathlib.Nat.{mod-lt, mod-eq-of-lt}
@@ -12,9 +12,9 @@ use Rattle.operators.specs.declared.table.Shape.{Shape}
 use Rattle.operators.specs.Table.{shapeOf, RuleMet, ruleHolds}
 use Rattle.operators.specs.TableLaws.{rule-met, rule-tested}
 use Rattle.picking.specs.declared.spot.Spot.{Spot}
-use Rattle.picking.specs.Spot.{at, positions, Slot, Fair, Asked}
+use Rattle.picking.specs.Spot.{at, positions, Slot}
 use Rattle.walumpeh.specs.Offered.{Short, Slots, Headed, Offered}
-use Rattle.walumpeh.proofs.Tests.{Told, told, both, where-below, at-most, less, same, is-true, as-fact}
+use Rattle.walumpeh.proofs.Tests.{told, both, where-below, at-most, less, same, is-true, as-fact}
 
 pub fits-law : (x w r : ℕ) → 1 ≤ w → w ≤ 64 → r ≡ x % 2 ^ w → Decides (Short x w) (eqb r x)
 fits-law x w r s h e =

@@ -1,10 +1,8 @@
 -- What the calls of the C interface answer, as numbers.
 use mathlib.Core.Path.{_≡_}
-use mathlib.Core.Logic.{_⊎_}
 use mathlib.Core.List.{List}
 use Prim.Native.Nat.{ℕ, zero, suc, _+_, _*_, _%_, _^_, _<_}
 use lib.ListN.{length, getD, set}
-use Rattle.words.specs.declared.found.Found.{Found}
 use Rattle.words.specs.declared.found.Found.the-variants.{At, Nothing}
 use Rattle.words.specs.Pick.{Picked}
 use Rattle.problem.specs.declared.Checked.{Checked}

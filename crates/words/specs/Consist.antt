@@ -1,7 +1,7 @@
 -- The x for which some s has x * s ≡ t to w bits, as a consistent value of a product asks: those with a set bit no higher than t's lowest. At any width.
 use mathlib.Core.Path.{_≡_, refl, sym, ap, _∙_, subst}
 use Prim.Native.Nat.{ℕ, zero, suc, _+_, _-_, _*_, _/_, _%_, _^_, _≤_, _<_}
-use native.Mathlib.Nat.{le-refl, le-trans, le-of-lt, lt-of-not-le, lt-of-lt-of-le, mod-lt, mod-eq-of-lt, zero-mod, mul-zero, mul-one, add-mod-right, pow-suc, pos-of-ne-zero, le-add-right, le-of-suc-le-suc, mul-div-cancel, zero-mul}
+use native.Mathlib.Nat.{le-refl, le-trans, le-of-lt, lt-of-not-le, lt-of-lt-of-le, mod-lt, mod-eq-of-lt, zero-mod, mul-one, add-mod-right, pow-suc, pos-of-ne-zero, le-add-right, le-of-suc-le-suc, mul-div-cancel, zero-mul}
 use native.Mathlib.Omega.{arith}
 use lib.Pow.{pow-pos, pow-mono, split}
 use Rattle.words.specs.Modular.{Inverse, inverse-one, inverse-fewer, newton, mul-mod-l, mul-mod-r, same-mul, cut-cut}
@@ -48,9 +48,6 @@ pub record MulReaches (w t x : ℕ) : Type 0 where
   pub by : ℕ
   pub fits : by < 2 ^ w
   pub gives : x * by % 2 ^ w ≡ t
-
-pub reaches-zero : (w x : ℕ) → MulReaches w 0 x
-reaches-zero w x = record { by = 0; fits = pow-pos w; gives = ap (λ (a : ℕ). a % 2 ^ w) (mul-zero x) ∙ zero-mod (2 ^ w) }
 
 module _ (w d t m : ℕ) (ht : t < 2 ^ w) (tail : Tail d t m) where
   m-lt : m < w

@@ -1,5 +1,5 @@
 -- Two ternary words at once are one ternary word, and the lesser of two answers is the answer in two sets together. All at any width.
-use mathlib.Core.Path.{_≡_, sym, subst}
+use mathlib.Core.Path.{sym, subst}
 use mathlib.Core.Logic.{_⊎_, inl, inr}
 use mathlib.Core.Bool.{Bool, true, false, not}
 use Prim.Native.Nat.{ℕ, _≤_, _<_, min}
@@ -9,8 +9,8 @@ use lib.Bits.{bitAnd, bitOr}
 use Rattle.words.specs.declared.found.Found.{Found}
 use Rattle.words.specs.declared.found.Found.the-variants.{At, Nothing}
 use Rattle.words.specs.Bits.{bit, bit-and, bit-or}
-use Rattle.words.specs.Agree.{Agrees, within-trans, lo-within, within-hi}
-use Rattle.words.specs.Pick.{FirstFrom, Empty}
+use Rattle.words.specs.Agree.{Agrees}
+use Rattle.words.specs.Pick.{FirstFrom}
 
 -- the values that agree with both
 pub record Both (lo hi l h x : ℕ) : Type 0 where
@@ -34,9 +34,6 @@ both-back lo hi l h x g = record {
     under = λ i. le-trans (g .under i) (le-trans (le-of-eq (bit-and i hi h)) (min-le-right (bit i hi) (bit i h)));
   };
 }
-
-pub both-none : (lo hi l h : ℕ) → (bitAnd (bitOr lo l) (bitAnd hi h) ≡ bitOr lo l → ⊥) → Empty (Both lo hi l h)
-both-none lo hi l h f x m = let g = both-to lo hi l h x m in f (within-trans (lo-within g) (within-hi g) .is)
 
 -- ---- the lesser of two answers
 abbrev pub lesser : Found → Found → Found

@@ -56,9 +56,6 @@ pub record MulInverse (w s t lo hi x : ℕ) : Type 0 where
 pub mul-zero-gives : (w x t : ℕ) → t ≡ 0 → x * 0 % 2 ^ w ≡ t
 mul-zero-gives w x t e = ap (λ (a : ℕ). a % 2 ^ w) (mul-zero x) ∙ zero-mod (2 ^ w) ∙ sym e
 
-pub mul-zero-only : (w x t : ℕ) → x * 0 % 2 ^ w ≡ t → t ≡ 0
-mul-zero-only w x t e = sym e ∙ mul-zero-gives w x 0 refl
-
 -- a target with a bit below s's lowest is out of reach
 pub mul-none : (w s t lo hi k r : ℕ) → s < 2 ^ w → Tail 64 s k → r ≡ t % 2 ^ k → (r ≡ 0 → ⊥) → Empty (MulInverse w s t lo hi)
 mul-none w s t lo hi k r hs tail e f x m =

@@ -1,11 +1,11 @@
 -- Words with given low bits, and the ternary word narrowed to them. All at any width.
 use mathlib.Core.Path.{_≡_, sym, ap, _∙_, subst}
 use Prim.Native.Nat.{ℕ, _+_, _-_, _*_, _/_, _%_, _^_, _≤_, _<_}
-use native.Mathlib.Nat.{le-antisymm, sub-add-cancel}
+use native.Mathlib.Nat.{sub-add-cancel}
 use native.Mathlib.Omega.{arith}
 use lib.Arith.{digits-lt}
 use lib.Pow.{pow-add, split, high, low, shr-lt}
-use Rattle.words.specs.Agree.{Within, Agrees, within-le, within-refl, within-div, within-mod, within-join, agrees-of-within, lo-within, within-hi}
+use Rattle.words.specs.Agree.{Agrees, within-refl, within-div, within-join, agrees-of-within, lo-within, within-hi}
 
 -- a's bits from n on, and c below
 unfoldable pub over : ℕ → ℕ → ℕ → ℕ
@@ -38,18 +38,6 @@ module _ (n lo hi c : ℕ) (fits : c < 2 ^ n) where
       agrees-of-within
       (within-join n (over n lo c) x (rw (over-div n lo c fits) (within-div n (lo-within g))) (rw (over-mod n lo c fits, e) (within-refl c)))
       (within-join n x (over n hi c) (rw (over-div n hi c fits) (within-div n (within-hi g))) (rw (over-mod n hi c fits, e) (within-refl c)))
-
-  -- and back
-  pub narrow-back : Within (lo % 2 ^ n) c → Within c (hi % 2 ^ n) → (x : ℕ) → Agrees (over n lo c) (over n hi c) x → Agrees lo hi x × (x % 2 ^ n ≡ c)
-  narrow-back a b x g =
-      let l = lo-within g in
-      let h = within-hi g in
-      let e : x % 2 ^ n ≡ c = le-antisymm (within-le (rw (over-mod n hi c fits) at (within-mod n h))) (within-le (rw (over-mod n lo c fits) at (within-mod n l))) in (
-        agrees-of-within
-            (within-join n lo x (rw (over-div n lo c fits) at (within-div n l)) (rw e a))
-            (within-join n x hi (rw (over-div n hi c fits) at (within-div n h)) (rw e b)),
-        e,
-      )
 
 -- the values that agree with lo, hi and have the n low bits c
 pub record LowIs (lo hi n c x : ℕ) : Type 0 where

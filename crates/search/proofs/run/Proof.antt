@@ -1,5 +1,5 @@
 -- `search::run` meets its contract.
-use mathlib.Core.Path.{_≡_, refl, sym, _∙_}
+use mathlib.Core.Path.{refl, sym, _∙_}
 use Rattle.words.specs.Decides.{decides-yes, decides-no}
 use Rattle.search.specs.Problem.{zeros}
 use Rattle.search.specs.Run.{Whole.closed, Whole.searched}

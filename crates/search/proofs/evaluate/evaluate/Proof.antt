@@ -1,10 +1,9 @@
 -- `search::evaluate::evaluate` meets its contract.
 use mathlib.Core.Path.{_≡_, sym, ap, _∙_}
-use mathlib.Core.List.{List}
-use Prim.Native.Nat.{ℕ, _≤_, _-_}
+use Prim.Native.Nat.{_≤_, _-_}
 use native.Mathlib.Omega.{arith}
 use borrow.Author.Needs.{needs}
-use lib.ListN.{length, getD}
+use lib.ListN.{length}
 use Rattle.search.specs.Problem.{problem, evalUp, evaluate as evaluated}
 use Rattle.search.specs.EvalLaws.{length-evalUp, evalUp-none, evalUp-step}
 use Rattle.search.proofs.Nodes.{evaluable, evaluated-all}

@@ -1,10 +1,9 @@
 -- `search::moves::nth_unsatisfied` meets its contract.
-use mathlib.Core.Path.{_≡_, sym, ap, _∙_, subst}
+use mathlib.Core.Path.{_≡_, sym, _∙_}
 use mathlib.Core.Logic.{⊎-elim}
-use Prim.Native.Nat.{ℕ, _≤_, _<_, _-_}
+use Prim.Native.Nat.{_≤_, _-_}
 use native.Mathlib.Omega.{arith}
 use borrow.Author.Needs.{needs}
-use lib.ListN.{getD}
 use Rattle.search.specs.Problem.{problem}
 use Rattle.search.specs.Run.{Unsatisfied}
 use Rattle.search.specs.Inner.{Count}

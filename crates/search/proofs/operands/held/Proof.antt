@@ -2,7 +2,6 @@
 use Rattle.search.specs.Problem.{three}
 use Rattle.search.specs.Inner.{heldIn}
 use Rattle.search.proofs.Nodes.{there-below}
-use borrow.Author.Needs.{needs}
 use Rattle.search.proofs.operands.held.Statement.{statement}
 use Rattle.search.proofs.operands.held.Tie as tie
 

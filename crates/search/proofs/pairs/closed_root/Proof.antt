@@ -1,9 +1,8 @@
 -- `search::pairs::closed_root` meets its contract.
-use mathlib.Core.Path.{_≡_, sym, ap, _∙_}
+use mathlib.Core.Path.{_≡_, sym, _∙_}
 use Prim.Native.Nat.{ℕ, _≤_, _<_, _-_}
 use native.Mathlib.Omega.{arith}
 use borrow.Author.Count.{below-more}
-use lib.ListN.{getD}
 use Rattle.search.specs.Problem.{problem, pairHi}
 use Rattle.search.proofs.Nodes.{root-inside, root-hi}
 use Rattle.search.specs.GoodLaws.{good-of}

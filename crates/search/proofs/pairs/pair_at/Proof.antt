@@ -1,5 +1,5 @@
 -- `search::pairs::pair_at` meets its contract.
-use mathlib.Core.Path.{_≡_, _∙_, ap}
+use mathlib.Core.Path.{_∙_}
 use Prim.Native.Nat.{_≤_, _<_}
 use native.Mathlib.Omega.{arith}
 use Rattle.search.proofs.Nodes.{own-pair, derives-pair, narrowed}

@@ -1,5 +1,4 @@
 -- `search::starts::refusal_of` meets its contract.
-use mathlib.Core.Path.{_∙_, sym}
 use Rattle.search.proofs.Runs.{lent-of, refused-of, refusals-of}
 use borrow.Author.Needs.{needs}
 use Rattle.search.proofs.starts.refusal_of.Statement.{statement}

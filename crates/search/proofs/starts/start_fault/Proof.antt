@@ -1,5 +1,5 @@
 -- `search::starts::start_fault` meets its contract.
-use mathlib.Core.Path.{_≡_, refl}
+use mathlib.Core.Path.{refl}
 use mathlib.Core.List.{[]}
 use Rattle.problem.specs.FactsLaws.{accepted-facts, node-inside}
 use Rattle.problem.specs.FirstLaws.{line-start, line-more}

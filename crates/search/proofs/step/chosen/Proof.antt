@@ -1,6 +1,5 @@
 -- Each arm divides by the count that it is for.
 use mathlib.Core.Path.{_≡_, refl}
-use Prim.Native.Nat.{_/_, _%_}
 use native.Mathlib.Omega.{arith}
 use Rattle.search.proofs.step.chosen.Statement.{statement}
 use Rattle.search.proofs.step.chosen.Tie as tie

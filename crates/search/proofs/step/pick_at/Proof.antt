@@ -1,5 +1,4 @@
 -- `search::step::pick_at` meets its contract.
-use mathlib.Core.Path.{_≡_}
 use mathlib.Core.Logic.{_⊎_, inl, inr, ⊎-elim}
 use native.Mathlib.Omega.{arith}
 use Rattle.search.specs.Step.{Follows.inverse}
