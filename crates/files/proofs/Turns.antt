@@ -12,7 +12,7 @@ use Rattle.problem.specs.Layout.{le64}
 use Rattle.files.specs.Laid.{over, Laid}
 use Rattle.files.specs.Words.{wordsBelow, wordsOf, fileWords}
 use Rattle.files.specs.Text.{nodeLine, linesBelow}
-use Rattle.files.specs.LaidLaws.{over-length, over-past, over-append, laid-one, laid-more, laid-taken}
+use Rattle.files.specs.laws.Laid.{over-length, over-past, over-append, laid-one, laid-more, laid-taken}
 
 -- ---- the bytes of a text
 

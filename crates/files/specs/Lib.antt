@@ -1,10 +1,7 @@
--- What a reader must believe of the program: Laid, Words, Text, Told, in this order. Whole says that the text is never cut short, and
--- Determined that the contracts settle each result; the other modules are laws.
+-- The definitions to be believed, in this order; then by folder what is inner, what is promised, and laws.
 pub mod Laid
 pub mod Words
 pub mod Text
 pub mod Told
-pub mod Whole
-pub mod Determined
-pub mod LaidLaws
-pub mod TextLaws
+pub mod promises
+pub mod laws

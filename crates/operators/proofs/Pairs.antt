@@ -5,11 +5,11 @@ use native.Mathlib.Nat.{le-trans, mod-lt}
 use native.Mathlib.Omega.{arith}
 use lib.Count.{trailingZeros}
 use lib.Pow.{pow-pos, pow-mono}
-use Rattle.words.specs.Zeros.{trailing-min}
+use Rattle.words.specs.laws.Zeros.{trailing-min}
 use Rattle.operators.specs.declared.fixed.Pair.{Pair}
 use Rattle.operators.specs.Fixed.{pair, branch, upTo, lowest}
-use Rattle.operators.specs.Ready.{Used, Ordered}
-use Rattle.operators.specs.Sound.{lowest-le, lo-lt}
+use Rattle.operators.specs.inner.Ready.{Used, Ordered}
+use Rattle.operators.specs.laws.Sound.{lowest-le, lo-lt}
 use Rattle.operators.proofs.Parts.{recut}
 
 -- the zeros among w digits, from those among W

@@ -6,10 +6,10 @@ use native.Mathlib.Nat.{lt-of-lt-of-le, sub-zero}
 use native.Mathlib.Omega.{arith}
 use lib.Pow.{not-mod, pow-mono, pow-pos}
 use mir.Val.{boolByte}
-use Rattle.words.specs.Modular.{cut-cut}
+use Rattle.words.specs.laws.Modular.{cut-cut}
 use Rattle.operators.specs.declared.meaning.Op.{Op}
 use Rattle.operators.specs.Meaning.{flag, choose}
-use Rattle.operators.specs.Ready.{Ready}
+use Rattle.operators.specs.inner.Ready.{Ready}
 
 -- a word that was computed modulo 2^W, cut to fewer bits
 pub recut : (r n W w : ℕ) → r ≡ n % 2 ^ W → w ≤ W → r % 2 ^ w ≡ n % 2 ^ w

@@ -1,10 +1,7 @@
--- What a reader must believe of the operators: Table, Meaning, Fixed, Ready, in this order. The other modules are laws.
+-- The definitions to be believed, in this order; then by folder what is inner, what is promised, and laws.
 pub mod Table
 pub mod Meaning
 pub mod Fixed
-pub mod Ready
-pub mod TableLaws
-pub mod MeaningLaws
-pub mod Sound
-pub mod Forced
-pub mod Determined
+pub mod inner
+pub mod promises
+pub mod laws

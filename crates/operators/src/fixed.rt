@@ -9,7 +9,7 @@ ghost use mathlib.Core.Path.{_≡_};
 ghost use Prim.Native.Nat.{_-_, _^_, _≤_};
 ghost use Rattle.operators.specs.Table.{kindOf};
 ghost use Rattle.operators.specs.Fixed.{anyOf, known, lowest, upTo, apart, eqPair, belowPair, shlPair, lshrPair, itePair, pairOf};
-ghost use Rattle.operators.specs.Ready.{PairsReady};
+ghost use Rattle.operators.specs.inner.Ready.{PairsReady};
 
 // A ternary word: lo has no bit that hi lacks, and a bit is fixed where the two agree.
 pub struct Pair {

@@ -4,7 +4,7 @@ ghost use Prim.Native.Nat.{_+_, _-_, _*_, _/_, _%_, _^_, _≤_, _<_};
 ghost use lib.ListN.{length, getD};
 ghost use Rattle.operators.specs.Table.{kindOf};
 ghost use Rattle.operators.specs.Meaning.{meaning};
-ghost use Rattle.operators.specs.Ready.{Standing};
+ghost use Rattle.operators.specs.inner.Ready.{Standing};
 
 // An operator in its place: its kind, its node's width, the widths of operands a and b, and its lowest bit (extract).
 pub struct Op {

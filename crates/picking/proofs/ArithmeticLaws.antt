@@ -4,16 +4,17 @@ use Prim.Native.Nat.{ℕ, _+_, _-_, _*_, _/_, _%_, _^_, _<_}
 use native.Mathlib.Nat.{add-comm, mul-comm, lt-of-lt-of-le, mod-eq-of-lt, mod-mod}
 use native.Mathlib.Numerals.{add-one}
 use lib.Pow.{pow-pos, pow-mono}
-use Rattle.words.specs.Agree.{Agrees, within-refl, agrees-of-within}
-use Rattle.words.specs.Modular.{WordInverse, same-sub, same-add, same-fewer}
-use Rattle.words.specs.Mul.{MulInverse, mul-to, mul-back, mul-none, mul-zero-gives}
-use Rattle.words.specs.Consist.{reach-some, some-reach}
-use Rattle.words.specs.Zeros.{Tail}
+use Rattle.words.specs.Agree.{Agrees}
+use Rattle.words.specs.laws.Agree.{within-refl, agrees-of-within}
+use Rattle.words.specs.inner.Words.{WordInverse, Tail}
+use Rattle.words.specs.laws.Modular.{same-sub, same-add, same-fewer}
+use Rattle.words.specs.laws.Mul.{MulInverse, mul-to, mul-back, mul-none, mul-zero-gives}
+use Rattle.words.specs.laws.Consist.{reach-some, some-reach}
 use Rattle.picking.specs.declared.boxes.Set.{Set}
 use Rattle.picking.specs.declared.boxes.Set.the-variants.{Many}
 use Rattle.picking.specs.declared.unions.Union.the-variants.{Low}
-use Rattle.picking.specs.Boxes.{Solves, Every, Some}
-use Rattle.picking.specs.Asks.{Sized}
+use Rattle.picking.specs.inner.Boxes.{Solves, Every, Some}
+use Rattle.picking.specs.inner.Asks.{Sized}
 use Rattle.picking.proofs.BoxLaws.{solves-by, solves-all}
 
 -- ---- sums and products do not mind the order

@@ -6,11 +6,13 @@ use native.Mathlib.Nat.{le-refl, le-trans, le-of-eq, lt-of-lt-of-le}
 use native.Mathlib.Omega.{arith}
 use lib.Bits.{bitAnd, bitOr, bitXor}
 use lib.Pow.{pow-mono, not-mod}
-use Rattle.words.specs.Bits.{bit, bit-lt, bit-ext, bit-high, bit-not, bit-and, bit-or, bit-xor, lt-or-ge}
-use Rattle.words.specs.Agree.{Agrees, within-of-bits, within-ones, bits-of-within}
+use Rattle.words.specs.Bits.{bit}
+use Rattle.words.specs.laws.Bits.{bit-lt, bit-ext, bit-high, bit-not, bit-and, bit-or, bit-xor, lt-or-ge}
+use Rattle.words.specs.Agree.{Agrees}
+use Rattle.words.specs.laws.Agree.{within-of-bits, within-ones, bits-of-within}
 use Rattle.picking.specs.declared.boxes.Set.{Set}
-use Rattle.picking.specs.Boxes.{Solves, Some}
-use Rattle.picking.specs.Asks.{Sized}
+use Rattle.picking.specs.inner.Boxes.{Solves, Some}
+use Rattle.picking.specs.inner.Asks.{Sized}
 use Rattle.picking.proofs.BoxLaws.{solves-by}
 
 -- the complement of a word, cut to fewer bits

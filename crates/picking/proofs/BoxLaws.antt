@@ -10,15 +10,18 @@ use lib.Dec.{eqb}
 use lib.Pow.{pow-mono, le-ones}
 use borrow.Author.Tests.{eqb-true, eq-eqb}
 use Rattle.words.specs.declared.found.Found.{Found}
-use Rattle.words.specs.Bits.{lt-or-ge}
-use Rattle.words.specs.Agree.{Agrees, agrees-of-within, lo-within, within-hi, within-le, within-mod, within-trans, within-zero, within-ones}
-use Rattle.words.specs.Meet.{both-to, both-back}
-use Rattle.words.specs.Narrow.{over, over-mod, narrow-to}
-use Rattle.words.specs.Pick.{Empty as NoMember, Least, Pick, above, around, Picked, picked-same}
+use Rattle.words.specs.laws.Bits.{lt-or-ge}
+use Rattle.words.specs.Agree.{Agrees}
+use Rattle.words.specs.laws.Agree.{agrees-of-within, lo-within, within-hi, within-le, within-mod, within-trans, within-zero, within-ones}
+use Rattle.words.specs.laws.Meet.{both-to, both-back}
+use Rattle.words.specs.inner.Words.{over}
+use Rattle.words.specs.laws.Narrow.{over-mod, narrow-to}
+use Rattle.words.specs.Pick.{Empty as NoMember, Least, Pick, above, around, Picked}
+use Rattle.words.specs.laws.Pick.{picked-same}
 use Rattle.picking.specs.declared.boxes.Box.{Box}
 use Rattle.picking.specs.declared.boxes.Set.{Set}
 use Rattle.picking.specs.declared.boxes.Set.the-variants.{Empty, Only, One}
-use Rattle.picking.specs.Boxes.{In, span, word, lowAre, met, Chosen, Solves, Every}
+use Rattle.picking.specs.inner.Boxes.{In, span, word, lowAre, met, Chosen, Solves, Every}
 
 -- ---- the pick from a set
 

@@ -6,10 +6,10 @@ use native.Mathlib.Omega.{arith}
 use Rattle.operators.specs.Meaning.{choose}
 use Rattle.picking.specs.declared.spot.Three.{Three}
 use Rattle.picking.specs.Spot.{at, put}
-use Rattle.picking.specs.Positions.{at-put-same, at-put-other}
+use Rattle.picking.specs.laws.Positions.{at-put-same, at-put-other}
 use Rattle.picking.specs.declared.boxes.Set.{Set}
-use Rattle.picking.specs.Boxes.{Solves, Every}
-use Rattle.picking.specs.Asks.{branchOf}
+use Rattle.picking.specs.inner.Boxes.{Solves, Every}
+use Rattle.picking.specs.inner.Asks.{branchOf}
 use Rattle.picking.proofs.BoxLaws.{solves-by, solves-all, same-by}
 
 abbrev pub chosen : Three → ℕ

@@ -9,8 +9,8 @@ use lib.Pow.{pow-pos}
 use borrow.Author.Tests.{ltb-true, ltb-false, eqb-true, eqb-false, lt-ltb, le-ltb, eq-eqb, ne-eqb}
 use Rattle.operators.specs.Meaning.{flag}
 use Rattle.picking.specs.declared.boxes.Set.{Set}
-use Rattle.picking.specs.Boxes.{Solves, Some}
-use Rattle.picking.specs.Asks.{joint}
+use Rattle.picking.specs.inner.Boxes.{Solves, Some}
+use Rattle.picking.specs.inner.Asks.{joint}
 use Rattle.picking.proofs.BitwiseLaws.{cut-not}
 use Rattle.picking.proofs.BoxLaws.{solves-by}
 

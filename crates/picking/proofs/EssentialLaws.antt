@@ -8,16 +8,19 @@ use lib.Dec.{T, eqb}
 use borrow.Author.Tests.{eqb-true, eqb-false}
 use Rattle.words.specs.declared.found.Found.{Found}
 use Rattle.words.specs.declared.found.Found.the-variants.{At, Nothing}
-use Rattle.words.specs.Agree.{Agrees, agrees-lt}
-use Rattle.words.specs.Decides.{Decides, decides-same, decides-not, decides-eq}
-use Rattle.words.specs.Pick.{Empty, Picked, pick-member}
+use Rattle.words.specs.Agree.{Agrees}
+use Rattle.words.specs.laws.Agree.{agrees-lt}
+use Rattle.words.specs.inner.Decides.{Decides}
+use Rattle.words.specs.laws.Decides.{decides-same, decides-not, decides-eq}
+use Rattle.words.specs.Pick.{Empty, Picked}
+use Rattle.words.specs.laws.Pick.{pick-member}
 use Rattle.operators.specs.Table.{kindOf}
 use Rattle.operators.specs.Meaning.{meaning}
 use Rattle.picking.specs.declared.spot.Three.{Three}
 use Rattle.picking.specs.declared.spot.Spot.{Spot}
 use Rattle.picking.specs.Spot.{at, put, positions, Other, value, Inverse, Essential, Fair, Asked}
-use Rattle.picking.specs.Positions.{at-put-same, at-put-other, value-used}
-use Rattle.picking.specs.Asks.{branchOf, Had}
+use Rattle.picking.specs.laws.Positions.{at-put-same, at-put-other, value-used}
+use Rattle.picking.specs.inner.Asks.{branchOf, Had}
 use Rattle.picking.proofs.ChoiceLaws.{chosen-at}
 use Rattle.picking.proofs.SpotLaws.{slot-lt, count-at, rule-at, slot-at, two-by-two, other-of}
 

@@ -5,11 +5,12 @@ use Prim.Native.Nat.{ℕ, zero, suc, _+_, _-_, _*_, _/_, _%_, _^_, _≤_, _<_, z
 use native.Mathlib.Nat.{le-refl, le-of-eq, lt-of-lt-of-le, mod-lt, mod-eq-of-lt}
 use native.Mathlib.Omega.{arith}
 use lib.Pow.{pow-pos, pow-mono, split, high, low, shr-lt, shl-lt, shl-exact, ones-sub-lt}
-use Rattle.words.specs.Bits.{bit, bit-lt, bit-ext, bit-cut, bit-cut-high, bit-shr, bit-shl, bit-shl-low, bit-high, bit-not, split-at, lt-or-ge}
+use Rattle.words.specs.Bits.{bit}
+use Rattle.words.specs.laws.Bits.{bit-lt, bit-ext, bit-cut, bit-cut-high, bit-shr, bit-shl, bit-shl-low, bit-high, bit-not, split-at, lt-or-ge}
 use Rattle.words.specs.Agree.{Agrees}
 use Rattle.picking.specs.declared.boxes.Set.{Set}
-use Rattle.picking.specs.Boxes.{Solves, Some}
-use Rattle.picking.specs.Asks.{joint, sideOf, partOf, Joined}
+use Rattle.picking.specs.inner.Boxes.{Solves, Some}
+use Rattle.picking.specs.inner.Asks.{joint, sideOf, partOf, Joined}
 use Rattle.picking.proofs.BitwiseLaws.{cut-not}
 use Rattle.picking.proofs.BoxLaws.{solves-by}
 

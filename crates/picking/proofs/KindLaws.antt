@@ -7,9 +7,9 @@ use native.Mathlib.Nat.{not-le-of-lt}
 use lib.Dec.{T, eqb, eqb→eq, ltb, ltb→lt}
 use mir.Val.{hasKey}
 use types.Run.{OneOf, hit}
-use Rattle.words.specs.Cases.{every, every-at}
+use Rattle.words.specs.laws.Cases.{every, every-at}
 use Rattle.operators.specs.Table.{shapeOf}
-use Rattle.operators.specs.TableLaws.{or-right}
+use Rattle.operators.specs.laws.Table.{or-right}
 
 -- n is none of the keys of some arms, the last arm first, as a match tells it to its last arm
 abbrev pub Without : List (List ℕ) → ℕ → Type 0

@@ -5,17 +5,19 @@ use Prim.Native.Nat.{ℕ, zero, suc, _+_, _-_, _*_, _/_, _%_, _^_, _≤_, _<_, z
 use native.Mathlib.Nat.{le-refl, le-trans, le-of-eq, le-of-lt, lt-of-lt-of-le, lt-of-le-of-lt, lt-of-not-le, not-le-of-lt, le-of-suc-le-suc, mod-eq-of-lt, mul-mod-left, mul-div-cancel, zero-mod, zero-div, zero-mul, div-eq-of-lt, div-eq-of-lt-le, div-mul-le-self, lt-div-mul-add, le-div-iff-mul-le, mul-le-mul-right, pow-suc}
 use native.Mathlib.Omega.{arith}
 use lib.Pow.{pow-pos, pow-mono, pow-add, split, shr-lt, shr-mono, shl-shr, shr-le, ones-lt, le-ones}
-use Rattle.words.specs.Bits.{bit, bit-cut, bit-shl, lt-or-ge}
-use Rattle.words.specs.Modular.{cut-cut}
-use Rattle.words.specs.Mul.{mod-scale}
-use Rattle.words.specs.Shift.{out-left}
-use Rattle.words.specs.Zeros.{Tail, tail-lt, tail-unique, Top, top-lt, top-unique}
+use Rattle.words.specs.Bits.{bit}
+use Rattle.words.specs.laws.Bits.{bit-cut, bit-shl, lt-or-ge}
+use Rattle.words.specs.laws.Modular.{cut-cut}
+use Rattle.words.specs.laws.Mul.{mod-scale}
+use Rattle.words.specs.laws.Shift.{out-left}
+use Rattle.words.specs.inner.Words.{Tail, Top}
+use Rattle.words.specs.laws.Zeros.{tail-lt, tail-unique, top-lt, top-unique}
 use Rattle.picking.specs.declared.boxes.Set.{Set}
 use Rattle.picking.specs.declared.boxes.Set.the-variants.{One, Many}
 use Rattle.picking.specs.declared.unions.Shifts.the-variants.{Left, Right}
 use Rattle.picking.specs.declared.unions.Union.the-variants.{Shifted}
-use Rattle.picking.specs.Boxes.{Among, span, Solves, Some}
-use Rattle.picking.specs.Asks.{Sized, joint}
+use Rattle.picking.specs.inner.Boxes.{Among, span, Solves, Some}
+use Rattle.picking.specs.inner.Asks.{Sized, joint}
 use Rattle.picking.proofs.BoxLaws.{in-low, low-in, in-word, in-span, span-solves, solves-by}
 
 -- an amount of w is a value of w bits

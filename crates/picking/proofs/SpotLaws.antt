@@ -10,8 +10,10 @@ use lib.Dec.{eqb}
 use lib.Pow.{pow-pos, pow-mono}
 use types.Run.{OneOf}
 use Rattle.words.specs.declared.found.Found.{Found}
-use Rattle.words.specs.Agree.{Agrees, agrees-lt}
-use Rattle.words.specs.Pick.{Picked, picked-same}
+use Rattle.words.specs.Agree.{Agrees}
+use Rattle.words.specs.laws.Agree.{agrees-lt}
+use Rattle.words.specs.Pick.{Picked}
+use Rattle.words.specs.laws.Pick.{picked-same}
 use Rattle.operators.specs.declared.table.Rule.the-variants.{Both, Equal}
 use Rattle.operators.specs.Table.{kindOf, row, shapeOf, RuleMet}
 use Rattle.operators.specs.Meaning.{meaning, flag, choose}
@@ -19,9 +21,9 @@ use Rattle.picking.specs.declared.spot.Three.{Three}
 use Rattle.picking.specs.declared.spot.Spot.{Spot}
 use Rattle.picking.specs.declared.boxes.Set.{Set}
 use Rattle.picking.specs.Spot.{at, put, positions, value, Reaches, Slot, Fair, Asked}
-use Rattle.picking.specs.Positions.{at-put-same, value-used}
-use Rattle.picking.specs.Boxes.{Solves, Chosen, Some}
-use Rattle.picking.specs.Asks.{joint, sideOf, Joined, Meets, Wanted}
+use Rattle.picking.specs.laws.Positions.{at-put-same, value-used}
+use Rattle.picking.specs.inner.Boxes.{Solves, Chosen, Some}
+use Rattle.picking.specs.inner.Asks.{joint, sideOf, Joined, Meets, Wanted}
 use Rattle.picking.proofs.ArithmeticLaws.{sum-comm}
 use Rattle.picking.proofs.BitwiseLaws.{xor-back}
 use Rattle.picking.proofs.BoxLaws.{solves-by}

@@ -7,15 +7,18 @@ use native.Mathlib.Omega.{arith}
 use lib.Pow.{pow-pos, shr-lt, split}
 use Rattle.words.specs.declared.found.Found.{Found}
 use Rattle.words.specs.declared.found.Found.the-variants.{At, Nothing}
-use Rattle.words.specs.Agree.{Agrees, Within, agrees-of-within, lo-within, within-hi, within-le, within-refl, within-div, within-mod, within-join}
-use Rattle.words.specs.Meet.{lesser, lesser-first}
-use Rattle.words.specs.Narrow.{over, over-div, over-mod}
-use Rattle.words.specs.Pick.{Empty as NoMember, Least, FirstFrom, NoneFrom, first-same}
+use Rattle.words.specs.Agree.{Agrees, Within}
+use Rattle.words.specs.laws.Agree.{agrees-of-within, lo-within, within-hi, within-le, within-refl, within-div, within-mod, within-join}
+use Rattle.words.specs.inner.Words.{lesser, over}
+use Rattle.words.specs.laws.Meet.{lesser-first}
+use Rattle.words.specs.laws.Narrow.{over-div, over-mod}
+use Rattle.words.specs.Pick.{Empty as NoMember, Least, FirstFrom, NoneFrom}
+use Rattle.words.specs.laws.Pick.{first-same}
 use Rattle.picking.specs.declared.unions.Shifts.{Shifts}
 use Rattle.picking.specs.declared.unions.Shifts.the-variants.{Left, Right}
 use Rattle.picking.specs.declared.unions.Union.{Union}
 use Rattle.picking.specs.declared.unions.Union.the-variants.{Except, Low, Shifted}
-use Rattle.picking.specs.Boxes.{In, met, boxOf, FineOf, ChosenOf}
+use Rattle.picking.specs.inner.Boxes.{In, met, boxOf, FineOf, ChosenOf}
 use Rattle.picking.proofs.BoxLaws.{met-to, met-back}
 
 -- ---- found in a part of the values that agree

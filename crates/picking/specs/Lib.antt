@@ -1,11 +1,5 @@
--- What a reader must believe of picking: Spot. Paper, Exact and Determined are what is proved of it; Asks and Boxes are
--- what the crate's own sets promise; Marks is how code writes positions; Positions and Tests are laws.
+-- The definitions to be believed, in this order; then by folder what is inner, what is promised, and laws.
 pub mod Spot
-pub mod Paper
-pub mod Exact
-pub mod Determined
-pub mod Asks
-pub mod Boxes
-pub mod Marks
-pub mod Positions
-pub mod Tests
+pub mod inner
+pub mod promises
+pub mod laws

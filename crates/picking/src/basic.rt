@@ -7,7 +7,7 @@ use crate::unions::Union;
 ghost use mathlib.Core.Path.{_≡_};
 ghost use Prim.Native.Nat.{_%_, _^_, _≤_, _<_};
 ghost use Rattle.words.specs.Agree.{Agrees};
-ghost use Rattle.picking.specs.Boxes.{Solves, Every};
+ghost use Rattle.picking.specs.inner.Boxes.{Solves, Every};
 
 // Every value.
 pub(crate) fn all() -> Set

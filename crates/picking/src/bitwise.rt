@@ -4,8 +4,8 @@ use crate::boxes::Set;
 ghost use mathlib.Core.Path.{_≡_};
 ghost use Prim.Native.Nat.{_-_, _^_};
 ghost use lib.Bits.{bitAnd, bitXor};
-ghost use Rattle.picking.specs.Boxes.{Solves, Some};
-ghost use Rattle.picking.specs.Asks.{Sized};
+ghost use Rattle.picking.specs.inner.Boxes.{Solves, Some};
+ghost use Rattle.picking.specs.inner.Asks.{Sized};
 
 pub(crate) fn inverse_not(w: u32, t: u64) -> Set
     requires { ⌜ Sized w t ⌝ }

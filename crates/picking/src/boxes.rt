@@ -7,7 +7,7 @@ ghost use mathlib.Core.Path.{_≡_};
 ghost use Prim.Native.Nat.{ℕ, _+_, _-_, _*_, _^_, _≤_, _<_};
 ghost use Rattle.words.specs.Agree.{Within};
 ghost use Rattle.words.specs.Pick.{FirstFrom, Picked};
-ghost use Rattle.picking.specs.Boxes.{In, Fine, span, word, lowAre, met, Chosen};
+ghost use Rattle.picking.specs.inner.Boxes.{In, Fine, span, word, lowAre, met, Chosen};
 
 // A ternary word met with an interval: the values that agree with lo, hi and lie in least..=most.
 pub(crate) struct Box {

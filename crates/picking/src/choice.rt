@@ -7,8 +7,8 @@ ghost use mathlib.Core.Path.{_≡_};
 ghost use Prim.Native.Nat.{_≤_, _<_};
 ghost use Rattle.operators.specs.Meaning.{choose};
 ghost use Rattle.picking.specs.Spot.{put};
-ghost use Rattle.picking.specs.Boxes.{Solves};
-ghost use Rattle.picking.specs.Asks.{branchOf};
+ghost use Rattle.picking.specs.inner.Boxes.{Solves};
+ghost use Rattle.picking.specs.inner.Asks.{branchOf};
 
 // The branch that is taken, as a position.
 pub(crate) fn branch(x: u64) -> u32

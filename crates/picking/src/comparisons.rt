@@ -5,8 +5,8 @@ ghost use mathlib.Core.Path.{_≡_};
 ghost use Prim.Native.Nat.{_≤_, _<_};
 ghost use lib.Dec.{eqb, ltb};
 ghost use Rattle.operators.specs.Meaning.{flag};
-ghost use Rattle.picking.specs.Boxes.{Solves, Some};
-ghost use Rattle.picking.specs.Asks.{joint};
+ghost use Rattle.picking.specs.inner.Boxes.{Solves, Some};
+ghost use Rattle.picking.specs.inner.Asks.{joint};
 
 pub(crate) fn inverse_eq(s: u64, t: u64) -> Set
     requires { ⌜ t < 2 ⌝ }

@@ -8,10 +8,10 @@ use words::Found;
 ghost use mathlib.Core.Path.{_≡_};
 ghost use mathlib.Core.Logic.{_⊎_};
 ghost use Prim.Native.Nat.{_^_, _≤_, _<_};
-ghost use Rattle.words.specs.Decides.{Decides};
+ghost use Rattle.words.specs.inner.Decides.{Decides};
 ghost use Rattle.picking.specs.Spot.{positions, value, Fair, Essential, Asked};
-ghost use Rattle.picking.specs.Asks.{Had};
-ghost use Rattle.picking.specs.Marks.{Marks};
+ghost use Rattle.picking.specs.inner.Asks.{Had};
+ghost use Rattle.picking.specs.inner.Marks.{Marks};
 
 // What a not or an extract gives on its current value.
 fn value_now(s: Spot) -> u64

@@ -3,8 +3,8 @@ use crate::basic;
 use crate::boxes::Set;
 ghost use mathlib.Core.Path.{_≡_};
 ghost use Prim.Native.Nat.{_+_, _-_, _*_, _/_, _%_, _^_, _≤_, _<_};
-ghost use Rattle.picking.specs.Boxes.{Solves, Some};
-ghost use Rattle.picking.specs.Asks.{joint, partOf, sideOf, Joined};
+ghost use Rattle.picking.specs.inner.Boxes.{Solves, Some};
+ghost use Rattle.picking.specs.inner.Asks.{joint, partOf, sideOf, Joined};
 
 // What a or b is, where a above the k bits of b is t.
 fn part(i: u32, k: u32, t: u64) -> u64

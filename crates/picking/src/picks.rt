@@ -10,8 +10,8 @@ ghost use mathlib.Core.Path.{_≡_};
 ghost use Prim.Native.Nat.{_%_, _^_, _<_};
 ghost use Rattle.words.specs.Pick.{Picked};
 ghost use Rattle.picking.specs.Spot.{at as standing, positions, Fair, Inverse, Consistent, Asked};
-ghost use Rattle.picking.specs.Boxes.{Solves};
-ghost use Rattle.picking.specs.Asks.{Meets, Wanted};
+ghost use Rattle.picking.specs.inner.Boxes.{Solves};
+ghost use Rattle.picking.specs.inner.Asks.{Meets, Wanted};
 
 // The proposal, taken modulo 2 to the operand's width.
 fn proposed(s: Spot, i: u32, p: u64) -> u64

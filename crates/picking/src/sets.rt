@@ -11,7 +11,7 @@ use crate::spot::Spot;
 use crate::spot::other;
 ghost use mathlib.Core.Path.{_≡_};
 ghost use Rattle.picking.specs.Spot.{at as standing, put, value, Reaches, Asked};
-ghost use Rattle.picking.specs.Boxes.{Solves};
+ghost use Rattle.picking.specs.inner.Boxes.{Solves};
 
 // The values of position i that give t with the others at their current values.
 pub(crate) fn inverse_set(s: Spot, i: u32, t: u64) -> Set

@@ -6,8 +6,8 @@ use crate::unions::Shifts;
 use crate::unions::Union;
 ghost use mathlib.Core.Path.{_≡_};
 ghost use Prim.Native.Nat.{_*_, _/_, _%_, _^_, _<_};
-ghost use Rattle.picking.specs.Boxes.{Solves, Some};
-ghost use Rattle.picking.specs.Asks.{Sized, joint};
+ghost use Rattle.picking.specs.inner.Boxes.{Solves, Some};
+ghost use Rattle.picking.specs.inner.Asks.{Sized, joint};
 
 // ---- shl, modulo 2^w
 

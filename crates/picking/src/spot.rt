@@ -2,7 +2,7 @@
 ghost use mathlib.Core.Path.{_≡_};
 ghost use Prim.Native.Nat.{_-_};
 ghost use Rattle.picking.specs.Spot.{at as standing};
-ghost use Rattle.picking.specs.Marks.{mark};
+ghost use Rattle.picking.specs.inner.Marks.{mark};
 
 // What stands at the positions a, b and c of a node.
 pub struct Three {

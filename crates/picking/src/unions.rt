@@ -9,7 +9,7 @@ ghost use mathlib.Core.Path.{_≡_};
 ghost use Prim.Native.Nat.{_+_, _≤_, _<_};
 ghost use Rattle.words.specs.Agree.{Agrees, Within};
 ghost use Rattle.words.specs.Pick.{FirstFrom, Picked};
-ghost use Rattle.picking.specs.Boxes.{boxOf, FineOf, ChosenOf};
+ghost use Rattle.picking.specs.inner.Boxes.{boxOf, FineOf, ChosenOf};
 
 // The words that are to be shifted to t: to the left, modulo 2^w (t, w), or to the right (t).
 pub(crate) enum Shifts {

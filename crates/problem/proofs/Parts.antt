@@ -7,7 +7,7 @@ use Rattle.problem.specs.declared.Checked.the-variants.{Accepted, Refuse
 use Rattle.problem.specs.declared.Refusal.{Refusal}
 use Rattle.problem.specs.Layout.{nodeCount, rootCount}
 use Rattle.problem.specs.Refusals.{firstBelow, headerFault, nodeFault, rootFault, checked}
-use Rattle.problem.specs.FirstLaws.{then-accepted, then-refused}
+use Rattle.problem.specs.laws.First.{then-accepted, then-refused}
 
 module _ (s : List ℕ) (h : Checked) (a : h ≡ headerFault s) where
   pub at-header : (r : Refusal) → h ≡ Refused r → h ≡ checked s

@@ -1,12 +1,6 @@
--- What a reader must believe of the problem check: Layout, Refusals, and Facts of what is accepted, in this order. Outside,
--- Numbers and Determined are theorems about them; the other modules are laws.
+-- The definitions to be believed, in this order; then by folder what is inner, what is promised, and laws.
 pub mod Layout
 pub mod Refusals
-pub mod Facts
-pub mod Outside
-pub mod Numbers
-pub mod Determined
-pub mod LayoutLaws
-pub mod FirstLaws
-pub mod TestLaws
-pub mod FactsLaws
+pub mod inner
+pub mod promises
+pub mod laws

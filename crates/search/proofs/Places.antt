@@ -10,25 +10,27 @@ use lib.ListN.{length, getD, drop, length-drop, length-append, List·getD-append
 use lib.Seq.{getD-drop, drop-drop, getD-append-seam}
 use Rattle.words.specs.declared.found.Found.{Found}
 use Rattle.words.specs.declared.found.Found.the-variants.{At, Nothing}
-use Rattle.words.specs.Agree.{agrees-lt}
+use Rattle.words.specs.laws.Agree.{agrees-lt}
 use Rattle.operators.specs.Table.{shapeOf}
 use Rattle.problem.specs.declared.layout.Node.{Node}
 use Rattle.problem.specs.Layout.{nodeAt, widthAt, rootAt}
 use Rattle.picking.specs.declared.spot.Spot.{Spot}
 use Rattle.picking.specs.Spot.{at}
-use Rattle.search.specs.Problem.{Prob, Pairs, problem, three, count, arg, Variable, spotOf, spot, pairs}
-use Rattle.search.specs.Positions.{past-three}
-use Rattle.search.specs.Step.{Lists, Lists.done, Lists.keep, Lists.skip, Out, goes, Step}
+use Rattle.evaluation.specs.Problem.{Prob, Pairs, problem, three, count, arg, Variable, spotOf, spot, pairs}
+use Rattle.evaluation.specs.laws.Positions.{past-three}
+use Rattle.evaluation.specs.Lists.{Lists, Lists.done, Lists.keep, Lists.skip}
+use Rattle.search.specs.Step.{Out, goes, Step}
 use Rattle.search.specs.Run.{End, sets, stuck, short, Walk, Walk.arrives, Walk.unserved, Walk.stops, Walk.onward, Unsatisfied, AllOne, Move, Move.no-word, Move.from-root}
-use Rattle.search.specs.Good.{Good}
-use Rattle.search.specs.GoodLaws.{good-of}
-use Rattle.search.specs.NodeLaws.{operand-node}
-use Rattle.search.specs.PairLaws.{length-fillUp, pairs-ternary}
-use Rattle.search.specs.SpotLaws.{spot-fair}
-use Rattle.search.specs.Decide.{Stands, lists-find, lists-member}
-use Rattle.search.specs.Determined.{lists-unique}
-use Rattle.search.specs.MoveLaws.{Aimed, Next, step-next, root-aimed}
-use Rattle.search.specs.Inner.{ids, OperandsBelow, heldIn, widthsIn, Filled, Spotted, spotIn, outOf, Stepping, Searching, Walking, Count, Nth}
+use Rattle.evaluation.specs.inner.Good.{Good}
+use Rattle.evaluation.specs.laws.Good.{good-of}
+use Rattle.evaluation.specs.laws.Nodes.{operand-node}
+use Rattle.evaluation.specs.laws.Pairs.{length-fillUp, pairs-ternary}
+use Rattle.evaluation.specs.laws.Spot.{spot-fair}
+use Rattle.evaluation.specs.laws.Decide.{Stands, lists-find, lists-member}
+use Rattle.search.specs.promises.Determined.{lists-unique}
+use Rattle.search.specs.inner.Run.{Aimed, outOf, Stepping, Searching, Walking, Count, Nth}
+use Rattle.search.specs.laws.Moves.{Next, step-next, root-aimed}
+use Rattle.evaluation.specs.inner.Evaluation.{ids, OperandsBelow, heldIn, widthsIn, Filled, Spotted, spotIn}
 
 -- ---- the tape, by places
 

@@ -11,20 +11,21 @@ use Rattle.problem.specs.declared.Checked.the-variants.{Accepted, Refused}
 use Rattle.problem.specs.declared.Refusal.{Refusal}
 use Rattle.problem.specs.Layout.{nodeCount}
 use Rattle.problem.specs.Refusals.{refusal, firstOf, _then_, firstBelow, checked}
-use Rattle.problem.specs.TestLaws.{lt-no}
-use Rattle.problem.specs.FirstLaws.{then-left, then-right, then-accepted, then-refused, none-of}
+use Rattle.problem.specs.laws.Tests.{lt-no}
+use Rattle.problem.specs.laws.First.{then-left, then-right, then-accepted, then-refused, none-of}
 use Rattle.search.specs.declared.Verdict.{Verdict}
 use Rattle.search.specs.declared.Answer.{Answer}
-use Rattle.search.specs.Problem.{problem, evaluate}
+use Rattle.evaluation.specs.Problem.{problem, evaluate}
 use Rattle.search.specs.Run.{End, sets, stuck, short, ClosedRoot, Unsatisfied, AllOne, Move, answer, Run, Run.model, Run.spent, Run.ended, Run.moved, Run.held}
 use Rattle.search.specs.Call.{placesFault, startFault, refusals}
-use Rattle.search.specs.Good.{Good}
-use Rattle.search.specs.GoodLaws.{good-of}
-use Rattle.search.specs.EvalLaws.{held-evaluate}
-use Rattle.search.specs.StartLaws.{accepted-start}
-use Rattle.search.specs.MoveLaws.{Lands, move-lands}
-use Rattle.search.specs.RunLaws.{kept-after, after-agrees}
-use Rattle.search.specs.Inner.{Assigned, Filled, Searching, Count, Lent}
+use Rattle.evaluation.specs.inner.Good.{Good}
+use Rattle.evaluation.specs.laws.Good.{good-of}
+use Rattle.evaluation.specs.laws.Values.{held-evaluate}
+use Rattle.search.specs.promises.Accepted.{accepted-start}
+use Rattle.search.specs.laws.Moves.{Lands, move-lands}
+use Rattle.search.specs.laws.Runs.{kept-after, after-agrees}
+use Rattle.evaluation.specs.inner.Evaluation.{Assigned, Filled}
+use Rattle.search.specs.inner.Run.{Searching, Count, Lent}
 use Rattle.search.proofs.Places.{no-more, some-left}
 
 -- where the loop of a run is: values that hold, m moves and so many steps made, at place k of the tape; and what the rest of

@@ -12,18 +12,22 @@ use lib.ListN.{length, getD}
 use lib.Pow.{pow-mono}
 use Rattle.words.specs.declared.found.Found.{Found}
 use Rattle.words.specs.declared.found.Found.the-variants.{At, Nothing}
-use Rattle.words.specs.Bits.{bit, bit-high}
-use Rattle.words.specs.Cases.{every, every-at}
-use Rattle.words.specs.Decides.{Decides, decides-not, decides-eq}
+use Rattle.words.specs.Bits.{bit}
+use Rattle.words.specs.laws.Bits.{bit-high}
+use Rattle.words.specs.laws.Cases.{every, every-at}
+use Rattle.words.specs.inner.Decides.{Decides}
+use Rattle.words.specs.laws.Decides.{decides-not, decides-eq}
 use Rattle.words.specs.Pick.{Picked, Empty}
 use Rattle.picking.specs.declared.spot.Spot.{Spot}
 use Rattle.picking.specs.declared.spot.Three.{Three}
 use Rattle.picking.specs.Spot.{at, positions, Inverse, Consistent, Essential, NoneEssential, Candidate}
-use Rattle.picking.specs.Positions.{few-positions}
-use Rattle.picking.specs.Marks.{marked, Marks, mark, marks-three, marks-none, marks-some, marks-same, marks-both, marks-fewer}
-use Rattle.search.specs.Step.{Lists, Lists.done, Lists.keep, Lists.skip, Out, blocked, Follows, Follows.consistent, Follows.nothing, Step, Step.none-left, Step.followed}
-use Rattle.search.specs.Decide.{lists-member}
-use Rattle.search.specs.Inner.{outOf, grown, members, listed, Open, FixedPast}
+use Rattle.picking.specs.laws.Positions.{few-positions}
+use Rattle.picking.specs.inner.Marks.{marked, Marks, mark}
+use Rattle.picking.specs.laws.Marks.{marks-three, marks-none, marks-some, marks-same, marks-both, marks-fewer}
+use Rattle.evaluation.specs.Lists.{Lists, Lists.done, Lists.keep, Lists.skip}
+use Rattle.search.specs.Step.{Out, blocked, Follows, Follows.consistent, Follows.nothing, Step, Step.none-left, Step.followed}
+use Rattle.evaluation.specs.laws.Decide.{lists-member}
+use Rattle.search.specs.inner.Run.{outOf, grown, members, listed, Open, FixedPast}
 
 -- ---- the marked positions
 

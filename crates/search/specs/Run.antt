@@ -6,8 +6,9 @@ use lib.ListN.{length, getD, set, drop}
 use Rattle.search.specs.declared.Verdict.{Verdict}
 use Rattle.search.specs.declared.Outcome.{Outcome}
 use Rattle.search.specs.declared.Answer.{Answer}
-use Rattle.search.specs.Problem.{Prob, arg, Variable, evaluate, pairHi, spot}
-use Rattle.search.specs.Step.{Lists, Step, goes, blocked}
+use Rattle.evaluation.specs.Problem.{Prob, arg, Variable, evaluate, pairHi, spot}
+use Rattle.evaluation.specs.Lists.{Lists}
+use Rattle.search.specs.Step.{Step, goes, blocked}
 
 -- how a move ends: variable n takes v, or it is blocked, with the steps made so far in the run and the rest of the tape; or
 -- the tape cannot serve a draw whole

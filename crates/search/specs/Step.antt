@@ -1,18 +1,13 @@
 -- Document 01, "A run": one step of a move, at one node.
 use mathlib.Core.Path.{_≡_}
 use mathlib.Core.Logic.{_⊎_}
-use mathlib.Core.List.{List, [], _∷_, _++_}
-use Prim.Native.Nat.{ℕ, suc, _^_, _/_, _%_, _<_}
+use mathlib.Core.List.{List, []}
+use Prim.Native.Nat.{ℕ, _^_, _/_, _%_, _<_}
 use lib.ListN.{length, getD}
 use Rattle.words.specs.Pick.{Pick, Empty}
 use Rattle.picking.specs.declared.spot.Spot.{Spot}
 use Rattle.picking.specs.Spot.{at, positions, Inverse, Consistent, Candidate}
-
--- the members of a set below n, in order
-pub data Lists (A : ℕ → Type 0) : ℕ → List ℕ → Type 0 where
-  done : Lists A 0 []
-  keep : {n : ℕ} {l : List ℕ} → Lists A n l → A n → Lists A (suc n) (l ++ (n ∷ []))
-  skip : {n : ℕ} {l : List ℕ} → Lists A n l → (A n → ⊥) → Lists A (suc n) l
+use Rattle.evaluation.specs.Lists.{Lists}
 
 -- what a step comes to: it goes to position i with the picked value v as the next target, or the move ends blocked
 pub data Out : Type 0 where

@@ -1,10 +1,10 @@
 // The run of document 01, an entry point: evaluation, fixed bits of all nodes, steps, moves, and whole runs.
 ghost use mathlib.Core.Path.{_≡_};
 ghost use Prim.Native.Nat.{_+_, _*_};
-ghost use Rattle.search.specs.Problem.{problem as problemIn};
+ghost use Rattle.evaluation.specs.Problem.{problem as problemIn};
 ghost use Rattle.search.specs.Run.{Run, answer};
 ghost use Rattle.search.specs.Call.{Called};
-ghost use Rattle.search.specs.Inner.{Searching};
+ghost use Rattle.search.specs.inner.Run.{Searching};
 
 mod evaluate;
 mod moves;

@@ -1,9 +1,9 @@
 // Moves: from an unsatisfied root entry down to a variable, step by step.
 ghost use Prim.Native.Nat.{_+_, _<_, _≤_};
 ghost use lib.ListN.{drop, length};
-ghost use Rattle.search.specs.Problem.{problem};
+ghost use Rattle.evaluation.specs.Problem.{problem};
 ghost use Rattle.search.specs.Run.{Walk, Move, Unsatisfied};
-ghost use Rattle.search.specs.Inner.{Searching, Walking, Moving, endOf, Placed, Count, Nth};
+ghost use Rattle.search.specs.inner.Run.{Searching, Walking, Moving, endOf, Placed, Count, Nth};
 use crate::operands::operand;
 use crate::spot::spot_of;
 use crate::step::step;

@@ -5,7 +5,7 @@ ghost use Rattle.problem.specs.declared.Checked.the-variants.{Accepted};
 ghost use Rattle.problem.specs.Layout.{nodeCount};
 ghost use Rattle.problem.specs.Refusals.{firstBelow};
 ghost use Rattle.search.specs.Call.{startFault, refusals};
-ghost use Rattle.search.specs.Inner.{Lent};
+ghost use Rattle.search.specs.inner.Run.{Lent};
 use problem::Checked;
 use problem::check;
 use problem::line;

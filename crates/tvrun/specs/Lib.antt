@@ -1,2 +1,3 @@
--- What the contracts of the program cite.
+-- The definitions to be believed, in this order; then by folder what is inner, what is promised, and laws.
 pub mod Reading
+pub mod laws

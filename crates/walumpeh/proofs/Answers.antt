@@ -9,7 +9,7 @@ use mir.Val.{boolByte}
 use Rattle.words.specs.declared.found.Found.{Found}
 use Rattle.words.specs.declared.found.Found.the-variants.{At, Nothing}
 use Rattle.words.specs.Pick.{Picked}
-use Rattle.words.specs.Decides.{Decides}
+use Rattle.words.specs.inner.Decides.{Decides}
 use Rattle.picking.specs.declared.spot.Spot.{Spot}
 use Rattle.picking.specs.Spot.{at, Inverse, Consistent, Essential}
 use Rattle.walumpeh.specs.Offered.{Offered}

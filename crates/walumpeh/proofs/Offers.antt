@@ -6,11 +6,12 @@ use native.Mathlib.Nat.{mod-lt, mod-eq-of-lt}
 use native.Mathlib.Omega.{arith}
 use lib.Dec.{leb, ltb, eqb}
 use lib.Pow.{pow-pos}
-use Rattle.words.specs.Agree.{Agrees, within-trans, lo-within, within-hi}
-use Rattle.words.specs.Decides.{Decides}
+use Rattle.words.specs.Agree.{Agrees}
+use Rattle.words.specs.laws.Agree.{within-trans, lo-within, within-hi}
+use Rattle.words.specs.inner.Decides.{Decides}
 use Rattle.operators.specs.declared.table.Shape.{Shape}
 use Rattle.operators.specs.Table.{shapeOf, RuleMet, ruleHolds}
-use Rattle.operators.specs.TableLaws.{rule-met, rule-tested}
+use Rattle.operators.specs.laws.Table.{rule-met, rule-tested}
 use Rattle.picking.specs.declared.spot.Spot.{Spot}
 use Rattle.picking.specs.Spot.{at, positions, Slot}
 use Rattle.walumpeh.specs.Offered.{Short, Slots, Headed, Offered}

@@ -5,7 +5,8 @@ use Prim.Native.Nat.{ℕ, _≤_, _<_}
 use native.Mathlib.Omega.{arith}
 use lib.Dec.{leb, ltb, eqb}
 use borrow.Author.Tests.{leb-true, leb-false, ltb-true, ltb-false, eqb-true, eqb-false}
-use Rattle.words.specs.Decides.{Decides, decides-same}
+use Rattle.words.specs.inner.Decides.{Decides}
+use Rattle.words.specs.laws.Decides.{decides-same}
 
 pub record Told (A : Type 0) (r : Bool) : Type 0 where
   pub is : Decides A r

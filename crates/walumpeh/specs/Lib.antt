@@ -1,5 +1,5 @@
--- What a reader must believe of the C interface: Offered, Calls, Runs.
+-- The definitions to be believed, in this order; then by folder what is inner, what is promised, and laws.
 pub mod Offered
 pub mod Calls
 pub mod Runs
-pub mod Determined
+pub mod promises

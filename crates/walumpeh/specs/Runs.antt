@@ -11,7 +11,7 @@ use Rattle.search.specs.declared.Outcome.the-variants.{Refused, Settled}
 use Rattle.search.specs.declared.Answer.{Answer}
 use Rattle.search.specs.Answers.{placeOf}
 use Rattle.search.specs.Call.{Called}
-use Rattle.search.specs.Determined.{run-determined}
+use Rattle.search.specs.promises.Determined.{run-determined}
 
 -- the number of each verdict, in document 01's order of names
 abbrev pub verdictCode : Verdict → ℕ

@@ -1,6 +1,6 @@
 // Whether numbers from outside are those of a node of an accepted problem, so that picking may be asked.
 ghost use mathlib.Core.Path.{_≡_};
-ghost use Rattle.words.specs.Decides.{Decides};
+ghost use Rattle.words.specs.inner.Decides.{Decides};
 ghost use Prim.Native.Nat.{_≤_};
 ghost use Rattle.operators.specs.Table.{ruleHolds};
 ghost use Rattle.picking.specs.Spot.{Slot};

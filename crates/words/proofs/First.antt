@@ -5,12 +5,13 @@ use native.Mathlib.Nat.{le-refl, le-trans, le-of-eq, le-antisymm, lt-of-lt-of-le
 use native.Mathlib.Omega.{arith}
 use lib.Pow.{pow-pos, pow-mono, split, high, low, shr-mono, shr-shr}
 use lib.Bits.{bitOr, or-shr}
-use Rattle.words.specs.Bits.{bit, bit-set-lt}
-use Rattle.words.specs.Agree.{Within, Agrees, within-le, within-refl, within-trans, within-div, within-mod, within-join, bit-within-one, agrees-of-within, lo-within, within-hi}
-use Rattle.words.specs.Less.{less, within-of-less, less-of-within, less-div, less-mod, or-zero, less-odd}
+use Rattle.words.specs.Bits.{bit}
+use Rattle.words.specs.laws.Bits.{bit-set-lt}
+use Rattle.words.specs.Agree.{Within, Agrees}
+use Rattle.words.specs.laws.Agree.{within-le, within-refl, within-trans, within-div, within-mod, within-join, bit-within-one, agrees-of-within, lo-within, within-hi}
+use Rattle.words.specs.inner.Words.{less, raised, Top, Tail}
+use Rattle.words.specs.laws.Less.{within-of-less, less-of-within, less-div, less-mod, or-zero, less-odd}
 use Rattle.words.specs.Pick.{Least, NoneFrom}
-use Rattle.words.specs.Raised.{raised}
-use Rattle.words.specs.Zeros.{Top, Tail}
 
 -- the bits at which p does not agree with lo, hi
 unfoldable clash : ℕ → ℕ → ℕ → ℕ

@@ -5,7 +5,7 @@ use native.Mathlib.Nat.{add-mod-mod, add-mul-mod-self-right, le-of-lt, le-of-eq,
 use native.Mathlib.Omega.{arith}
 use lib.Bits.{bitAnd, and-mask}
 use lib.Pow.{pow-pos, pow-add, split}
-use Rattle.words.specs.Modular.{mul-mod-l}
+use Rattle.words.specs.laws.Modular.{mul-mod-l}
 
 -- numbers of two digits to the base n, cut to two digits
 by-halves : (n a1 a0 b1 b0 : ℕ) → (a0 * b0 + ((a1 * b0 + a0 * b1) % (n * n) * n) % (n * n)) % (n * n) ≡ (a1 * n + a0) * (b1 * n + b0) % (n * n)

@@ -1,9 +1,9 @@
 // Bits of a word: the low ones, those not in another word, the highest, the lowest.
 ghost use mathlib.Core.Path.{_≡_};
 ghost use Prim.Native.Nat.{_%_, _^_, _≤_, _<_};
-ghost use Rattle.words.specs.Less.{less};
-ghost use Rattle.words.specs.Narrow.{over};
-ghost use Rattle.words.specs.Zeros.{Top, Tail};
+ghost use Rattle.words.specs.inner.Words.{less};
+ghost use Rattle.words.specs.inner.Words.{over};
+ghost use Rattle.words.specs.inner.Words.{Top, Tail};
 
 // The n low bits of x, where that is not all of them.
 pub(crate) fn low_bits(x: u64, n: u32) -> u64

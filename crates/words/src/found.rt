@@ -1,6 +1,6 @@
 // What a search for a value finds.
 ghost use mathlib.Core.Path.{_≡_};
-ghost use Rattle.words.specs.Meet.{lesser};
+ghost use Rattle.words.specs.inner.Words.{lesser};
 
 pub enum Found {
     At(u64),

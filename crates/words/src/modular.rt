@@ -1,7 +1,7 @@
 // Products and inverses modulo 2^64.
 ghost use mathlib.Core.Path.{_≡_};
 ghost use Prim.Native.Nat.{ℕ, _+_, _*_, _%_, _^_, _≤_, _<_};
-ghost use Rattle.words.specs.Modular.{Inverse, WordInverse};
+ghost use Rattle.words.specs.inner.Words.{Inverse, WordInverse};
 
 // a * b, modulo 2^64, by halves of 32 bits whose products fit.
 pub fn wrapping_mul(a: u64, b: u64) -> u64

@@ -7,8 +7,8 @@ use crate::found::Found;
 ghost use mathlib.Core.Path.{_≡_};
 ghost use Prim.Native.Nat.{_^_, _<_};
 ghost use Rattle.words.specs.Agree.{Within, Agrees};
-ghost use Rattle.words.specs.Decides.{Decides};
-ghost use Rattle.words.specs.Raised.{raised};
+ghost use Rattle.words.specs.inner.Decides.{Decides};
+ghost use Rattle.words.specs.inner.Words.{raised};
 ghost use Rattle.words.specs.Pick.{FirstFrom, Pick};
 
 // Whether v agrees with lo, hi.

@@ -1,6 +1,6 @@
 -- The words of the two files, and what is told of them.
 use mathlib.Core.Path.{refl}
-use Rattle.files.specs.LaidLaws.{laid-counts}
+use Rattle.files.specs.laws.Laid.{laid-counts}
 use Rattle.files.proofs.Turns.{file-words}
 use borrow.Author.Needs.{needs}
 use Rattle.files.proofs.output.Statement.{statement}

@@ -2,8 +2,8 @@
 use mathlib.Core.Path.{sym, _∙_}
 use native.Mathlib.Omega.{arith}
 use denote.Ref.{now}
-use Rattle.problem.specs.Facts.{HeaderFacts}
-use Rattle.problem.specs.FactsLaws.{header-accepted}
+use Rattle.problem.specs.inner.Facts.{HeaderFacts}
+use Rattle.problem.specs.laws.Facts.{header-accepted}
 use Rattle.problem.proofs.Parts.{at-header, at-node, at-root}
 use borrow.Author.Needs.{needs}
 use Rattle.problem.proofs.check.Statement.{statement}

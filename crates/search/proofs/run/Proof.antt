@@ -1,7 +1,7 @@
 -- `search::run` meets its contract.
 use mathlib.Core.Path.{refl, sym, _∙_}
-use Rattle.words.specs.Decides.{decides-yes, decides-no}
-use Rattle.search.specs.Problem.{zeros}
+use Rattle.words.specs.laws.Decides.{decides-yes, decides-no}
+use Rattle.evaluation.specs.Problem.{zeros}
 use Rattle.search.specs.Run.{Whole.closed, Whole.searched}
 use Rattle.search.specs.Call.{Called.refuses, Called.runs}
 use Rattle.search.proofs.Runs.{accepted-of, begun, begins}

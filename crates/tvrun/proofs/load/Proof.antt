@@ -1,5 +1,5 @@
 -- What was read lies in the buffer.
-use Rattle.tvrun.specs.Reading.{bytes-most}
+use Rattle.tvrun.specs.laws.Reading.{bytes-most}
 use borrow.Author.Needs.{needs}
 use Rattle.tvrun.proofs.load.Statement.{statement}
 use Rattle.tvrun.proofs.load.Tie as tie

@@ -1,5 +1,5 @@
 -- What was read of each file lies in its buffer.
-use Rattle.tvrun.specs.Reading.{bytes-most, bytes-taken}
+use Rattle.tvrun.specs.laws.Reading.{bytes-most, bytes-taken}
 use borrow.Author.Needs.{needs}
 use Rattle.tvrun.proofs.main.Statement.{statement}
 use Rattle.tvrun.proofs.main.Tie as tie

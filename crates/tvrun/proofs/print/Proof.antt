@@ -1,5 +1,5 @@
 -- The text lies in the buffer.
-use Rattle.files.specs.LaidLaws.{laid-counts}
+use Rattle.files.specs.laws.Laid.{laid-counts}
 use borrow.Author.Needs.{needs}
 use Rattle.tvrun.proofs.print.Statement.{statement}
 use Rattle.tvrun.proofs.print.Tie as tie

@@ -4,7 +4,7 @@ use Prim.Native.Nat.{_-_, _≤_}
 use borrow.Author.Needs.{needs}
 use native.Mathlib.Omega.{arith}
 use lib.ListN.{length}
-use Rattle.tvrun.specs.Reading.{bytes-most}
+use Rattle.tvrun.specs.laws.Reading.{bytes-most}
 use Rattle.tvrun.proofs.read_all.Statement.{statement}
 use Rattle.tvrun.proofs.read_all.Tie as tie
 

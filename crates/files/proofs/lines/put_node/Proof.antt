@@ -1,6 +1,6 @@
 -- A variable's line, and nothing for another node.
 use Rattle.files.proofs.Reading.{line-of, no-line}
-use Rattle.files.specs.LaidLaws.{laid-none}
+use Rattle.files.specs.laws.Laid.{laid-none}
 use borrow.Author.Needs.{needs}
 use Rattle.files.proofs.lines.put_node.Statement.{statement}
 use Rattle.files.proofs.lines.put_node.Tie as tie

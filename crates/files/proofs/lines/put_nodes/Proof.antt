@@ -4,7 +4,7 @@ use Prim.Native.Nat.{_≤_, _-_}
 use native.Mathlib.Omega.{arith}
 use Rattle.files.specs.Laid.{Laid}
 use Rattle.files.specs.Text.{linesBelow}
-use Rattle.files.specs.LaidLaws.{laid-none, laid-inside, laid-kept}
+use Rattle.files.specs.laws.Laid.{laid-none, laid-inside, laid-kept}
 use Rattle.files.proofs.Turns.{lines-turn}
 use Rattle.files.proofs.lines.put_nodes.Statement.{statement}
 use Rattle.files.proofs.lines.put_nodes.Tie as tie

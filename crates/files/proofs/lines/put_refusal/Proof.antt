@@ -1,6 +1,6 @@
 -- The line's parts in their order.
 use Rattle.files.specs.Text.{ascii, labelled, refusedLine}
-use Rattle.files.specs.LaidLaws.{laid-more}
+use Rattle.files.specs.laws.Laid.{laid-more}
 use borrow.Author.Needs.{needs}
 use Rattle.files.proofs.lines.put_refusal.Statement.{statement}
 use Rattle.files.proofs.lines.put_refusal.Tie as tie

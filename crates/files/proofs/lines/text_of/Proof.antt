@@ -1,6 +1,6 @@
 -- The lines by what the answer holds: a refusal, or a verdict and then the variables.
-use Rattle.files.specs.LaidLaws.{laid-more}
-use Rattle.files.specs.TextLaws.{printed-refused, printed-settled}
+use Rattle.files.specs.laws.Laid.{laid-more}
+use Rattle.files.specs.laws.Text.{printed-refused, printed-settled}
 use borrow.Author.Needs.{needs}
 use Rattle.files.proofs.lines.text_of.Statement.{statement}
 use Rattle.files.proofs.lines.text_of.Tie as tie

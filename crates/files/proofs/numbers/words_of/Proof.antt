@@ -4,7 +4,7 @@ use Prim.Native.Nat.{_≤_, _-_}
 use native.Mathlib.Omega.{arith}
 use Rattle.files.specs.Laid.{Laid}
 use Rattle.files.specs.Words.{wordsBelow}
-use Rattle.files.specs.LaidLaws.{laid-none, laid-kept}
+use Rattle.files.specs.laws.Laid.{laid-none, laid-kept}
 use Rattle.files.proofs.Turns.{words-turn, words-end}
 use Rattle.files.proofs.numbers.words_of.Statement.{statement}
 use Rattle.files.proofs.numbers.words_of.Tie as tie

@@ -4,8 +4,8 @@ use Prim.Native.Nat.{ℕ, _<_}
 use native.Mathlib.Omega.{arith}
 use borrow.Fn.Kinds.{In}
 use borrow.Fn.PlainCycle.{Measures, is, falls, and}
-use Rattle.files.specs.LaidLaws.{laid-inside, laid-kept, laid-more}
-use Rattle.files.specs.TextLaws.{decimal-one, decimal-more}
+use Rattle.files.specs.laws.Laid.{laid-inside, laid-kept, laid-more}
+use Rattle.files.specs.laws.Text.{decimal-one, decimal-more}
 use Rattle.files.proofs.text.put_decimal.Reads as put-decimal
 use Rattle.files.proofs.text.put_decimal.Kinds as kinds
 use Rattle.files.proofs.text.+put_decimal.Lts-put_decimal as lts

@@ -1,5 +1,5 @@
 -- Where there is room the byte is stored, and else nothing changes.
-use Rattle.files.specs.LaidLaws.{laid-one, laid-full}
+use Rattle.files.specs.laws.Laid.{laid-one, laid-full}
 use borrow.Author.Needs.{needs}
 use Rattle.files.proofs.text.put_byte.Statement.{statement}
 use Rattle.files.proofs.text.put_byte.Tie as tie

@@ -3,7 +3,7 @@ use Prim.Native.Nat.{_≤_, _-_}
 use native.Mathlib.Omega.{arith}
 use lib.ListN.{length, take}
 use Rattle.files.specs.Laid.{Laid}
-use Rattle.files.specs.LaidLaws.{laid-none, laid-inside, laid-kept}
+use Rattle.files.specs.laws.Laid.{laid-none, laid-inside, laid-kept}
 use Rattle.files.proofs.Turns.{bytes-turn, bytes-end}
 use Rattle.files.proofs.text.put_bytes.Statement.{statement}
 use Rattle.files.proofs.text.put_bytes.Tie as tie

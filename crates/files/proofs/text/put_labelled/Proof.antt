@@ -1,5 +1,5 @@
 -- The text, and then the digits.
-use Rattle.files.specs.LaidLaws.{laid-more}
+use Rattle.files.specs.laws.Laid.{laid-more}
 use borrow.Author.Needs.{needs}
 use Rattle.files.proofs.text.put_labelled.Statement.{statement}
 use Rattle.files.proofs.text.put_labelled.Tie as tie

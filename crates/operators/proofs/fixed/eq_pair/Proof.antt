@@ -2,7 +2,7 @@
 use borrow.Author.Needs.{needs}
 use mathlib.Core.Path.{sym, ap, _∙_}
 use Rattle.operators.specs.Fixed.{told}
-use Rattle.operators.specs.Forced.{told-apart, told-same, told-free}
+use Rattle.operators.specs.promises.Forced.{told-apart, told-same, told-free}
 use Rattle.operators.proofs.fixed.eq_pair.Statement.{statement}
 use Rattle.operators.proofs.fixed.eq_pair.Tie as tie
 

@@ -3,7 +3,7 @@ use borrow.Author.Needs.{needs}
 use mathlib.Core.Path.{ap, _∙_}
 use Prim.Native.Nat.{ℕ}
 use Rattle.operators.specs.Fixed.{upTo}
-use Rattle.operators.specs.Sound.{lowest-le}
+use Rattle.operators.specs.laws.Sound.{lowest-le}
 use Rattle.operators.proofs.fixed.low_pair.Statement.{statement}
 use Rattle.operators.proofs.fixed.low_pair.Tie as tie
 

@@ -4,7 +4,7 @@ use mathlib.Core.Path.{ap₂}
 use Prim.Native.Nat.{_+_, _*_}
 use native.Mathlib.Omega.{arith}
 use Rattle.operators.specs.Fixed.{pair}
-use Rattle.operators.specs.Sound.{lo-lt}
+use Rattle.operators.specs.laws.Sound.{lo-lt}
 use Rattle.operators.proofs.Pairs.{low-fits, low-is}
 use Rattle.operators.proofs.Parts.{join-asks, part-asks, last-kind}
 use Rattle.operators.proofs.fixed.pair_of.Statement.{statement}

@@ -1,7 +1,7 @@
 -- The shifted high bits lose nothing, and the low bits stand under them.
 use borrow.Author.Needs.{needs}
 use native.Mathlib.Omega.{arith}
-use Rattle.words.specs.Shift.{join-law}
+use Rattle.words.specs.laws.Shift.{join-law}
 use Rattle.operators.proofs.meaning.join.Statement.{statement}
 use Rattle.operators.proofs.meaning.join.Tie as tie
 

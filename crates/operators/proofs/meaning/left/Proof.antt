@@ -3,8 +3,8 @@ use borrow.Author.Needs.{needs}
 use mathlib.Core.Path.{_∙_}
 use Prim.Native.Nat.{_*_, _^_}
 use native.Mathlib.Omega.{arith}
-use Rattle.words.specs.Modular.{cut-cut}
-use Rattle.words.specs.Shift.{out-left}
+use Rattle.words.specs.laws.Modular.{cut-cut}
+use Rattle.words.specs.laws.Shift.{out-left}
 use Rattle.operators.proofs.meaning.left.Statement.{statement}
 use Rattle.operators.proofs.meaning.left.Tie as tie
 

@@ -1,7 +1,7 @@
 -- An amount of 64 or more shifts everything out.
 use borrow.Author.Needs.{needs}
 use native.Mathlib.Omega.{arith}
-use Rattle.words.specs.Shift.{out-right}
+use Rattle.words.specs.laws.Shift.{out-right}
 use Rattle.operators.proofs.meaning.right.Statement.{statement}
 use Rattle.operators.proofs.meaning.right.Tie as tie
 

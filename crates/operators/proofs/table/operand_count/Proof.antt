@@ -4,7 +4,7 @@ use mathlib.Core.Logic.{inl, inr}
 use native.Mathlib.Omega.{arith}
 use borrow.Author.Needs.{needs}
 use Rattle.operators.specs.declared.table.Shape.{Shape}
-use Rattle.operators.specs.TableLaws.{counted, row-none}
+use Rattle.operators.specs.laws.Table.{counted, row-none}
 use Rattle.operators.proofs.table.operand_count.Statement.{statement}
 use Rattle.operators.proofs.table.operand_count.Tie as tie
 

@@ -1,6 +1,6 @@
 -- The constant table is the definition's, row by row; a number over 13 reads as a variable.
 use borrow.Author.Needs.{needs}
-use Rattle.operators.specs.TableLaws.{row-is, row-none}
+use Rattle.operators.specs.laws.Table.{row-is, row-none}
 use Rattle.operators.proofs.table.shape_of.Statement.{statement}
 use Rattle.operators.proofs.table.shape_of.Tie as tie
 

@@ -4,7 +4,7 @@ use native.Mathlib.Nat.{mod-lt}
 use native.Mathlib.Omega.{arith}
 use lib.Pow.{pow-pos}
 use borrow.Author.Needs.{needs}
-use Rattle.words.specs.Zeros.{tail-lt}
+use Rattle.words.specs.laws.Zeros.{tail-lt}
 use Rattle.picking.proofs.ArithmeticLaws.{mul-zero, mul-no, mul-by}
 use Rattle.picking.proofs.BoxLaws.{same-by, solves-none}
 use Rattle.picking.proofs.arithmetic.inverse_mul.Statement.{statement}

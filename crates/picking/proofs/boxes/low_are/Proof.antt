@@ -2,7 +2,7 @@
 use mathlib.Core.Path.{_∙_, ap}
 use Prim.Native.Nat.{ℕ}
 use borrow.Author.Needs.{needs}
-use Rattle.picking.specs.Boxes.{word}
+use Rattle.picking.specs.inner.Boxes.{word}
 use Rattle.picking.proofs.boxes.low_are.Statement.{statement}
 use Rattle.picking.proofs.boxes.low_are.Tie as tie
 

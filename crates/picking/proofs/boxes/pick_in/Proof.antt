@@ -2,7 +2,7 @@
 use mathlib.Core.Path.{subst}
 use borrow.Author.Needs.{needs}
 use Rattle.words.specs.Pick.{Picked}
-use Rattle.picking.specs.Boxes.{In}
+use Rattle.picking.specs.inner.Boxes.{In}
 use Rattle.picking.specs.declared.boxes.Box.{Box}
 use Rattle.picking.proofs.BoxLaws.{one-picked}
 use Rattle.picking.proofs.boxes.pick_in.Statement.{statement}

@@ -1,7 +1,7 @@
 -- By whether the value is there and agrees.
 use mathlib.Core.Bool.{_&&_}
 use borrow.Author.Needs.{needs}
-use Rattle.words.specs.Decides.{decides-yes, decides-no, decides-and}
+use Rattle.words.specs.laws.Decides.{decides-yes, decides-no, decides-and}
 use Rattle.picking.proofs.BoxLaws.{only-at, only-none}
 use Rattle.picking.proofs.EssentialLaws.{decides-is}
 use Rattle.picking.proofs.boxes.pick_only.Statement.{statement}

@@ -5,7 +5,7 @@ use native.Mathlib.Nat.{mod-eq-of-lt}
 use native.Mathlib.Omega.{arith}
 use lib.Pow.{pow-pos}
 use borrow.Author.Needs.{needs}
-use Rattle.words.specs.Shift.{one-shl}
+use Rattle.words.specs.laws.Shift.{one-shl}
 use Rattle.picking.proofs.boxes.shifted.Statement.{statement}
 use Rattle.picking.proofs.boxes.shifted.Tie as tie
 

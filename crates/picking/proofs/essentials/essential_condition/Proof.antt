@@ -2,7 +2,7 @@
 use mathlib.Core.Path.{sym}
 use borrow.Author.Needs.{needs}
 use Rattle.words.specs.Agree.{Agrees}
-use Rattle.words.specs.Decides.{Decides}
+use Rattle.words.specs.inner.Decides.{Decides}
 use Rattle.picking.proofs.ChoiceLaws.{branch-low, branch-few}
 use Rattle.picking.proofs.EssentialLaws.{condition}
 use Rattle.picking.proofs.essentials.essential_condition.Statement.{statement}

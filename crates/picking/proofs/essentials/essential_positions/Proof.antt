@@ -5,7 +5,7 @@ use native.Mathlib.Omega.{arith}
 use borrow.Author.Needs.{needs}
 use Rattle.picking.specs.declared.spot.Spot.{Spot}
 use Rattle.picking.specs.Spot.{positions, Fair, Asked}
-use Rattle.picking.specs.Marks.{marks-one, marks-two, marks-three}
+use Rattle.picking.specs.laws.Marks.{marks-one, marks-two, marks-three}
 use Rattle.picking.proofs.EssentialLaws.{alone-one}
 use Rattle.picking.proofs.KindLaws.{Without, essentialArms, two-left}
 use Rattle.picking.proofs.SpotLaws.{count-at}

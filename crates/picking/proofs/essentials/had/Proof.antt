@@ -2,7 +2,7 @@
 use mathlib.Core.Bool.{_&&_}
 use lib.Dec.{eqb}
 use borrow.Author.Needs.{needs}
-use Rattle.words.specs.Decides.{decides-and, decides-eq}
+use Rattle.words.specs.laws.Decides.{decides-and, decides-eq}
 use Rattle.picking.proofs.EssentialLaws.{decides-or}
 use Rattle.picking.proofs.essentials.had.Statement.{statement}
 use Rattle.picking.proofs.essentials.had.Tie as tie

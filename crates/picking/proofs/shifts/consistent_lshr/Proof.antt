@@ -1,7 +1,7 @@
 -- For t = 0 anything; else the shifts that keep t's highest bit within w bits.
 use native.Mathlib.Omega.{arith}
 use borrow.Author.Needs.{needs}
-use Rattle.words.specs.Zeros.{top-lt}
+use Rattle.words.specs.laws.Zeros.{top-lt}
 use Rattle.picking.proofs.BoxLaws.{solves-all}
 use Rattle.picking.proofs.ComparisonLaws.{position-one}
 use Rattle.picking.proofs.ShiftLaws.{some-lshr-zero, some-lshr, some-right}

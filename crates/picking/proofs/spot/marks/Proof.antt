@@ -1,7 +1,7 @@
 -- Each answer is a number below 2.
 use native.Mathlib.Omega.{arith}
 use borrow.Author.Needs.{needs}
-use Rattle.picking.specs.Marks.{byte-lt}
+use Rattle.picking.specs.laws.Marks.{byte-lt}
 use Rattle.picking.proofs.spot.marks.Statement.{statement}
 use Rattle.picking.proofs.spot.marks.Tie as tie
 

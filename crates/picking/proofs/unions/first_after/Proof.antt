@@ -1,7 +1,7 @@
 -- Nothing is above the greatest word.
 use native.Mathlib.Omega.{arith}
 use borrow.Author.Needs.{needs}
-use Rattle.words.specs.Agree.{within-hi, within-le}
+use Rattle.words.specs.laws.Agree.{within-hi, within-le}
 use Rattle.picking.proofs.unions.first_after.Statement.{statement}
 use Rattle.picking.proofs.unions.first_after.Tie as tie
 

@@ -4,7 +4,7 @@ use Prim.Native.Nat.{ℕ, _≤_, _-_}
 use native.Mathlib.Omega.{arith}
 use borrow.Author.Needs.{needs}
 use Rattle.words.specs.Pick.{FirstFrom}
-use Rattle.picking.specs.Boxes.{In, met, ChosenOf}
+use Rattle.picking.specs.inner.Boxes.{In, met, ChosenOf}
 use Rattle.picking.specs.declared.boxes.Box.{Box}
 use Rattle.picking.specs.declared.unions.Union.the-variants.{Shifted}
 use Rattle.picking.proofs.UnionLaws.{none-yet, one-more}

@@ -1,8 +1,9 @@
 -- Two searches, from p on and from 0 on.
 use mathlib.Core.Path.{subst}
 use borrow.Author.Needs.{needs}
-use Rattle.words.specs.Pick.{FirstFrom, above, picked-around}
-use Rattle.picking.specs.Boxes.{ChosenOf}
+use Rattle.words.specs.Pick.{FirstFrom, above}
+use Rattle.words.specs.laws.Pick.{picked-around}
+use Rattle.picking.specs.inner.Boxes.{ChosenOf}
 use Rattle.picking.proofs.unions.pick_in_union.Statement.{statement}
 use Rattle.picking.proofs.unions.pick_in_union.Tie as tie
 

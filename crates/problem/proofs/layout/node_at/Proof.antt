@@ -1,6 +1,6 @@
 -- The part from 9 + 24i to 24 bytes later is node i's.
 use mathlib.Core.Path.{_∙_}
-use Rattle.problem.specs.LayoutLaws.{part-node}
+use Rattle.problem.specs.laws.Layout.{part-node}
 use borrow.Author.Needs.{needs}
 use Rattle.problem.proofs.layout.node_at.Statement.{statement}
 use Rattle.problem.proofs.layout.node_at.Tie as tie

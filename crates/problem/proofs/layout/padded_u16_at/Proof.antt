@@ -1,7 +1,7 @@
 -- Both bytes inside, or the second past the end.
 use mathlib.Core.Path.{ap, _∙_}
 use Prim.Native.Nat.{ℕ, _+_, _*_}
-use Rattle.problem.specs.LayoutLaws.{short-number}
+use Rattle.problem.specs.laws.Layout.{short-number}
 use borrow.Author.Needs.{needs}
 use Rattle.problem.proofs.layout.padded_u16_at.Statement.{statement}
 use Rattle.problem.proofs.layout.padded_u16_at.Tie as tie

@@ -1,6 +1,6 @@
 -- The width is byte 10 + 24i.
 use mathlib.Core.Path.{_∙_, sym}
-use Rattle.problem.specs.LayoutLaws.{width-byte}
+use Rattle.problem.specs.laws.Layout.{width-byte}
 use borrow.Author.Needs.{needs}
 use Rattle.problem.proofs.layout.width_at.Statement.{statement}
 use Rattle.problem.proofs.layout.width_at.Tie as tie

@@ -5,7 +5,7 @@ use mathlib.Core.List.{[]}
 use Rattle.problem.specs.Refusals.{operandAbove, strayField, nodeLines, faultOf}
 use Rattle.operators.specs.declared.table.Shape.{Shape}
 use Rattle.operators.specs.Table.{ruleHolds}
-use Rattle.problem.specs.FirstLaws.{line-start, line-more}
+use Rattle.problem.specs.laws.First.{line-start, line-more}
 use borrow.Author.Needs.{needs}
 use Rattle.problem.proofs.refusals.fault_of.Statement.{statement}
 use Rattle.problem.proofs.refusals.fault_of.Tie as tie

@@ -7,7 +7,7 @@ use denote.Ref.{now}
 use lib.ListN.{length}
 use lib.Dec.{ltb, eqb}
 use Rattle.problem.specs.Refusals.{headerLines, headerFault}
-use Rattle.problem.specs.FirstLaws.{line-start, line-more}
+use Rattle.problem.specs.laws.First.{line-start, line-more}
 use borrow.Author.Needs.{needs}
 use Rattle.problem.proofs.refusals.header_fault.Statement.{statement}
 use Rattle.problem.proofs.refusals.header_fault.Tie as tie

@@ -5,7 +5,7 @@ use native.Mathlib.Omega.{arith}
 use borrow.Author.Needs.{needs}
 use Rattle.problem.specs.declared.Checked.the-variants.{Accepted}
 use Rattle.problem.specs.Refusals.{firstBelow, nodeFault}
-use Rattle.problem.specs.FirstLaws.{first-none, first-more, first-at, first-end}
+use Rattle.problem.specs.laws.First.{first-none, first-more, first-at, first-end}
 use Rattle.problem.proofs.refusals.nodes_fault.Statement.{statement}
 use Rattle.problem.proofs.refusals.nodes_fault.Tie as tie
 

@@ -6,7 +6,7 @@ use denote.Ref.{now}
 use lib.Dec.{leb, eqb}
 use Rattle.problem.specs.Layout.{nodeCount, rootAt, widthAt}
 use Rattle.problem.specs.Refusals.{rootLines, rootFault}
-use Rattle.problem.specs.FirstLaws.{line-start, line-more}
+use Rattle.problem.specs.laws.First.{line-start, line-more}
 use borrow.Author.Needs.{needs}
 use Rattle.problem.proofs.refusals.root_fault.Statement.{statement}
 use Rattle.problem.proofs.refusals.root_fault.Tie as tie

@@ -1,10 +1,8 @@
 -- `search::moves::walk` meets its contract.
 use native.Mathlib.Omega.{arith}
 use borrow.Author.Needs.{needs}
-use Rattle.search.proofs.Nodes.{node-there}
+use Rattle.evaluation.specs.laws.Readings.{node-there}
 use Rattle.search.proofs.Places.{On, on-start, spotted, stepping-in, walk-arrives, walk-short, walk-stuck, walk-below, walk-on}
-use borrow.Author.Needs.{needs}
-use borrow.Author.Needs.{needs}
 use Rattle.search.proofs.moves.walk.Statement.{statement}
 use Rattle.search.proofs.moves.walk.Tie as tie
 

@@ -1,8 +1,8 @@
 -- `search::starts::start_fault` meets its contract.
 use mathlib.Core.Path.{refl}
 use mathlib.Core.List.{[]}
-use Rattle.problem.specs.FactsLaws.{accepted-facts, node-inside}
-use Rattle.problem.specs.FirstLaws.{line-start, line-more}
+use Rattle.problem.specs.laws.Facts.{accepted-facts, node-inside}
+use Rattle.problem.specs.laws.First.{line-start, line-more}
 use Rattle.problem.specs.Refusals.{bitOutside}
 use Rattle.search.specs.Call.{startFault, disagrees}
 use borrow.Author.Needs.{needs}

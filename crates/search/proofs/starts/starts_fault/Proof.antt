@@ -6,9 +6,8 @@ use borrow.Author.Needs.{needs}
 use Rattle.problem.specs.declared.Checked.the-variants.{Accepted}
 use Rattle.problem.specs.Layout.{nodeCount}
 use Rattle.problem.specs.Refusals.{firstBelow}
-use Rattle.problem.specs.FirstLaws.{first-none, first-more, first-at, first-end}
+use Rattle.problem.specs.laws.First.{first-none, first-more, first-at, first-end}
 use Rattle.search.specs.Call.{startFault}
-use borrow.Author.Needs.{needs}
 use Rattle.search.proofs.starts.starts_fault.Statement.{statement}
 use Rattle.search.proofs.starts.starts_fault.Tie as tie
 

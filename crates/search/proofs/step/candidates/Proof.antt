@@ -1,7 +1,7 @@
 -- None is open; none is essential; those that are both.
 use native.Mathlib.Omega.{arith}
 use borrow.Author.Needs.{needs}
-use Rattle.picking.specs.Marks.{marks-some}
+use Rattle.picking.specs.laws.Marks.{marks-some}
 use Rattle.search.proofs.Steps.{none-open, none-essential, some-essential}
 use Rattle.search.proofs.step.candidates.Statement.{statement}
 use Rattle.search.proofs.step.candidates.Tie as tie

@@ -1,6 +1,6 @@
 -- `walumpeh::nodes::wal_essential` meets its contract.
 use Rattle.walumpeh.proofs.Answers.{essential-code}
-use Rattle.words.specs.Decides.{decides-yes, decides-no}
+use Rattle.words.specs.laws.Decides.{decides-yes, decides-no}
 use Rattle.walumpeh.specs.Calls.{EssentialCode.refused}
 use borrow.Author.Needs.{needs}
 use Rattle.walumpeh.proofs.nodes.wal_essential.Statement.{statement}

@@ -1,6 +1,6 @@
 -- `walumpeh::nodes::wal_pick` meets its contract.
 use Rattle.walumpeh.proofs.Answers.{nothing-code, found-code}
-use Rattle.words.specs.Decides.{decides-yes, decides-no}
+use Rattle.words.specs.laws.Decides.{decides-yes, decides-no}
 use Rattle.walumpeh.specs.Calls.{PickCode.no-place, PickCode.refused}
 use native.Mathlib.Omega.{arith}
 use borrow.Author.Needs.{needs}

@@ -1,7 +1,7 @@
 -- `walumpeh::offered::offered` meets its contract.
 use Rattle.walumpeh.proofs.Offers.{offered-law}
-use Rattle.words.specs.Decides.{decides-yes, decides-no}
-use Rattle.picking.specs.Positions.{few-positions}
+use Rattle.words.specs.laws.Decides.{decides-yes, decides-no}
+use Rattle.picking.specs.laws.Positions.{few-positions}
 use borrow.Author.Needs.{needs}
 use Rattle.walumpeh.proofs.offered.offered.Statement.{statement}
 use Rattle.walumpeh.proofs.offered.offered.Tie as tie

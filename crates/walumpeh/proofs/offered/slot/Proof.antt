@@ -1,6 +1,6 @@
 -- `walumpeh::offered::slot` meets its contract.
 use Rattle.walumpeh.proofs.Offers.{slot-law, slot-none}
-use Rattle.words.specs.Decides.{decides-yes, decides-no}
+use Rattle.words.specs.laws.Decides.{decides-yes, decides-no}
 use borrow.Author.Needs.{needs}
 use Rattle.walumpeh.proofs.offered.slot.Statement.{statement}
 use Rattle.walumpeh.proofs.offered.slot.Tie as tie

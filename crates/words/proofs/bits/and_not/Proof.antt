@@ -1,5 +1,5 @@
 -- The complement of b is 2 ^ 64 - 1 - b: and-not says what it leaves of a.
-use Rattle.words.specs.Less.{and-not}
+use Rattle.words.specs.laws.Less.{and-not}
 use Rattle.words.proofs.bits.and_not.Statement.{statement}
 use Rattle.words.proofs.bits.and_not.Tie as tie
 

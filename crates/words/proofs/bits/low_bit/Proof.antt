@@ -1,5 +1,5 @@
 -- The count of trailing zeros is the place of the lowest set bit.
-use Rattle.words.specs.Zeros.{trailing}
+use Rattle.words.specs.laws.Zeros.{trailing}
 use Rattle.words.proofs.bits.low_bit.Statement.{statement}
 use Rattle.words.proofs.bits.low_bit.Tie as tie
 

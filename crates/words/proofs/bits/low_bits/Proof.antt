@@ -1,5 +1,5 @@
 -- The mask is 2 ^ n - 1, since 1 shifted by n < 64 stays within the word, and masking by it is the remainder.
-use Rattle.words.specs.Shift.{one-shl}
+use Rattle.words.specs.laws.Shift.{one-shl}
 use lib.Bits.{and-mask}
 use lib.Pow.{pow-pos}
 use borrow.Author.Needs.{needs}

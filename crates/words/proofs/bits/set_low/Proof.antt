@@ -1,6 +1,6 @@
 -- Taking the low bits off and adding others is `over`; what results is a word again.
 use native.Mathlib.Nat.{mod-le}
-use Rattle.words.specs.Narrow.{over-by-sub, over-lt}
+use Rattle.words.specs.laws.Narrow.{over-by-sub, over-lt}
 use borrow.Author.Needs.{needs}
 use Rattle.words.proofs.bits.set_low.Statement.{statement}
 use Rattle.words.proofs.bits.set_low.Tie as tie

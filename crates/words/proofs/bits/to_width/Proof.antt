@@ -1,6 +1,6 @@
 -- What is shifted out at the top does not come back.
 use borrow.Author.Needs.{needs}
-use Rattle.words.specs.Shift.{there-and-back}
+use Rattle.words.specs.laws.Shift.{there-and-back}
 use Rattle.words.proofs.bits.to_width.Statement.{statement}
 use Rattle.words.proofs.bits.to_width.Tie as tie
 

@@ -1,5 +1,5 @@
 -- 63 less the leading zeros is the place of the highest set bit.
-use Rattle.words.specs.Zeros.{leading}
+use Rattle.words.specs.laws.Zeros.{leading}
 use lib.Count.{leading-top}
 use native.Mathlib.Omega.{arith}
 use Rattle.words.proofs.bits.top_bit.Statement.{statement}

@@ -2,7 +2,7 @@
 use mathlib.Core.Path.{sym, ap, ap₂, _∙_}
 use native.Mathlib.Nat.{min-eq-left, min-eq-right, le-of-lt}
 use Rattle.words.specs.declared.found.Found.the-variants.{At}
-use Rattle.words.specs.Meet.{lesser}
+use Rattle.words.specs.inner.Words.{lesser}
 use borrow.Author.Needs.{needs}
 use Rattle.words.proofs.found.lesser_of.Statement.{statement}
 use Rattle.words.proofs.found.lesser_of.Tie as tie

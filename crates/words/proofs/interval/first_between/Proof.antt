@@ -1,6 +1,7 @@
 -- The search starts at the greater of least and p; what it finds past most shows that nothing is between.
 use mathlib.Core.Path.{subst}
-use Rattle.words.specs.Pick.{FirstFrom, between-at, between-past, between-none}
+use Rattle.words.specs.Pick.{FirstFrom}
+use Rattle.words.specs.laws.Pick.{between-at, between-past, between-none}
 use borrow.Author.Needs.{needs}
 use Rattle.words.proofs.interval.first_between.Statement.{statement}
 use Rattle.words.proofs.interval.first_between.Tie as tie

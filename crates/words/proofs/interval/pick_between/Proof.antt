@@ -1,6 +1,7 @@
 -- Two searches make a pick: from p on, and, where that finds nothing, from 0 on.
 use mathlib.Core.Path.{subst}
-use Rattle.words.specs.Pick.{FirstFrom, Between, above, picked-around}
+use Rattle.words.specs.Pick.{FirstFrom, Between, above}
+use Rattle.words.specs.laws.Pick.{picked-around}
 use Rattle.words.specs.Agree.{Agrees}
 use borrow.Author.Needs.{needs}
 use Rattle.words.proofs.interval.pick_between.Statement.{statement}

@@ -1,5 +1,5 @@
 -- The law of Newton's step, of the two products and the difference that the code takes.
-use Rattle.words.specs.Modular.{newton}
+use Rattle.words.specs.laws.Modular.{newton}
 use borrow.Author.Needs.{needs}
 use Rattle.words.proofs.modular.newton.Statement.{statement}
 use Rattle.words.proofs.modular.newton.Tie as tie

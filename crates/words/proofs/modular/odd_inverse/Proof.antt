@@ -1,5 +1,5 @@
 -- From 1 bit to 64 bits in six steps, each of which doubles the bits.
-use Rattle.words.specs.Modular.{inverse-one}
+use Rattle.words.specs.laws.Modular.{inverse-one}
 use borrow.Author.Needs.{needs}
 use Rattle.words.proofs.modular.odd_inverse.Statement.{statement}
 use Rattle.words.proofs.modular.odd_inverse.Tie as tie

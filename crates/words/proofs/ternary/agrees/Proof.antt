@@ -1,5 +1,5 @@
 -- Each test is one half of agreeing, as Within says it.
-use Rattle.words.specs.Agree.{lo-within, within-hi, agrees-of-within}
+use Rattle.words.specs.laws.Agree.{lo-within, within-hi, agrees-of-within}
 use Rattle.words.proofs.ternary.agrees.Statement.{statement}
 use Rattle.words.proofs.ternary.agrees.Tie as tie
 

@@ -1,6 +1,6 @@
 -- The three exits are the three laws of proofs/First: p itself, nothing, the raised word.
 use Rattle.words.proofs.First.{here, nothing, risen, risen-place}
-use Rattle.words.specs.Agree.{agrees-lt}
+use Rattle.words.specs.laws.Agree.{agrees-lt}
 use borrow.Author.Needs.{needs}
 use Rattle.words.proofs.ternary.first_agreeing.Statement.{statement}
 use Rattle.words.proofs.ternary.first_agreeing.Tie as tie

@@ -1,5 +1,5 @@
 -- The raised word fits, so neither the shift nor the sums lose anything.
-use Rattle.words.specs.Raised.{raised}
+use Rattle.words.specs.inner.Words.{raised}
 use lib.Pow.{pow-pos}
 use native.Mathlib.Nat.{mod-eq-of-lt, le-mul-of-pos-right}
 use native.Mathlib.Omega.{arith}

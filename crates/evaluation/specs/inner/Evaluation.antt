@@ -1,0 +1,128 @@
+-- What the functions of evaluation ask and answer, in terms of the definitions. (Not needed to read what is promised.)
+use mathlib.Core.Path.{_≡_}
+use mathlib.Core.List.{List}
+use Prim.Native.Nat.{ℕ, _+_, _*_, _^_, _≤_, _<_}
+use lib.Dec.{ltb}
+use lib.ListN.{length, getD}
+use Rattle.operators.specs.declared.meaning.Op.{Op}
+use Rattle.operators.specs.Table.{kindOf, shapeOf}
+use Rattle.operators.specs.inner.Ready.{PairsReady}
+use Rattle.operators.specs.declared.fixed.Pair.{Pair}
+use Rattle.operators.specs.Fixed.{pair, pairOf}
+use Rattle.problem.specs.declared.layout.Node.{Node}
+use Rattle.problem.specs.declared.Checked.the-variants.{Accepted}
+use Rattle.problem.specs.Layout.{widthAt}
+use Rattle.problem.specs.Refusals.{checked}
+use Rattle.picking.specs.declared.spot.Three.{Three}
+use Rattle.picking.specs.declared.spot.Spot.{Spot}
+use Rattle.picking.specs.Spot.{at}
+use Rattle.evaluation.specs.declared.operands.Widths.{Widths}
+use Rattle.evaluation.specs.Problem.{oneOf, three, problem, Pairs, noPairs, fillUp, pairs}
+use Rattle.evaluation.specs.Values.{VariablesAgree}
+
+-- ---- operands.rt
+
+abbrev pub ids : Node → Three
+ids n = record { a = n .a; b = n .b; c = n .c }
+
+abbrev pub operandCount : Node → ℕ
+operandCount n = shapeOf (n .kind) .operands
+
+-- the ids of a node's operands are below k
+abbrev pub OperandsBelow : Node → ℕ → Type 0
+OperandsBelow n k = (i : ℕ) → i < operandCount n → at (ids n) i < k
+
+-- what the list l has at the ids of the operands
+unfoldable pub heldIn : List ℕ → Node → Three
+heldIn l n = three (operandCount n) (λ i. getD l (at (ids n) i) 0)
+
+-- the operands' widths in the problem s
+unfoldable pub widthsIn : List ℕ → Node → Widths
+widthsIn s n =
+    record {
+      a = oneOf (ltb 0 (operandCount n)) (widthAt s (n .a)) 0;
+      b = oneOf (ltb 1 (operandCount n)) (widthAt s (n .b)) 0;
+      c = oneOf (ltb 2 (operandCount n)) (widthAt s (n .c)) 0;
+    }
+
+unfoldable pub operatorIn : List ℕ → Node → Op
+operatorIn s n = record { kind = n .kind; width = n .width; wa = widthsIn s n .a; wb = widthsIn s n .b; low = n .b }
+
+-- ---- evaluate.rt
+
+-- the bytes of node i are there
+abbrev pub Readable : List ℕ → ℕ → Type 0
+Readable s i = 9 + 24 * i + 24 ≤ length s
+
+-- the operator of node n, with the widths that stand at its fields a and b, whether its kind uses them or not
+abbrev pub standingOp : List ℕ → Node → Op
+standingOp s n = record { kind = n .kind; width = n .width; wa = widthAt s (n .a); wb = widthAt s (n .b); low = n .b }
+
+-- node i of an accepted problem s, where the places vs of the nodes below it hold values of their widths
+pub record Evaluable (s vs : List ℕ) (i : ℕ) : Type 0 where
+  pub accepted : checked s ≡ Accepted
+  pub places : problem s .nodes ≤ length vs
+  pub inside : i < problem s .nodes
+  pub narrow : (m : ℕ) → m < i → getD vs m 0 < 2 ^ problem s .width m
+
+-- an accepted problem s, and a place for each node, where the variables agree with their pairs
+pub record Assigned (s vs : List ℕ) : Type 0 where
+  pub accepted : checked s ≡ Accepted
+  pub places : problem s .nodes ≤ length vs
+  pub agrees : VariablesAgree (problem s) vs
+
+-- ---- pairs.rt
+
+abbrev pub pairsOf : List ℕ → List ℕ → Pairs
+pairsOf los his = record { los = los; his = his }
+
+-- the pair that an operator has from its operands' pairs
+abbrev pub narrows : Op → Three → Three → Pair
+narrows o lo hi =
+    pairOf (kindOf (o .kind)) (o .width) (o .wa) (o .wb) (o .low) (pair (lo .a) (hi .a)) (pair (lo .b) (hi .b)) (pair (lo .c) (hi .c))
+
+abbrev pub derives : List ℕ → List ℕ → List ℕ → Node → Pair
+derives s los his n = narrows (operatorIn s n) (heldIn los n) (heldIn his n)
+
+-- a node whose operator can be put to work on its operands' pairs
+pub record Narrowed (s los his : List ℕ) (n : Node) : Type 0 where
+  pub below-lo : OperandsBelow n (length los)
+  pub below-hi : OperandsBelow n (length his)
+  pub ready :
+      PairsReady (operatorIn s n) (pair (heldIn los n .a) (heldIn his n .a)) (pair (heldIn los n .b) (heldIn his n .b))
+      (pair (heldIn los n .c) (heldIn his n .c))
+
+-- an accepted problem s, and its first i pairs in two lists of 1,024 places
+pub record Fillable (s los his : List ℕ) (i : ℕ) : Type 0 where
+  pub accepted : checked s ≡ Accepted
+  pub inside : i < problem s .nodes
+  pub so-far : pairsOf los his ≡ fillUp (problem s) i noPairs
+
+-- an accepted problem, and two lists of 1,024 zeros
+pub record Unfilled (s los his : List ℕ) : Type 0 where
+  pub accepted : checked s ≡ Accepted
+  pub none : pairsOf los his ≡ noPairs
+
+-- an accepted problem, and all its pairs
+pub record Filled (s los his : List ℕ) : Type 0 where
+  pub accepted : checked s ≡ Accepted
+  pub all : pairsOf los his ≡ pairs (problem s)
+
+-- ---- spot.rt
+
+pub record Spotted (los his vs : List ℕ) (n : Node) : Type 0 where
+  pub below-lo : OperandsBelow n (length los)
+  pub below-hi : OperandsBelow n (length his)
+  pub below : OperandsBelow n (length vs)
+
+unfoldable pub spotIn : List ℕ → List ℕ → List ℕ → List ℕ → Node → Spot
+spotIn s los his vs n =
+    record {
+      kind = n .kind;
+      width = n .width;
+      low = n .b;
+      widths = record { a = widthsIn s n .a; b = widthsIn s n .b; c = widthsIn s n .c };
+      los = heldIn los n;
+      his = heldIn his n;
+      current = heldIn vs n;
+    }

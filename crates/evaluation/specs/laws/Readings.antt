@@ -1,0 +1,199 @@
+-- What the code's readings of a node have to do with the definitions.
+use mathlib.Core.Path.{_≡_, refl, sym, ap, _∙_, subst}
+use mathlib.Core.Bool.{true}
+use mathlib.Core.List.{List, []}
+use Prim.Native.Nat.{ℕ, zero, suc, _+_, _*_, _^_, _≤_, _<_}
+use native.Mathlib.Omega.{arith}
+use native.Mathlib.Decide.{decLt}
+use lib.Dec.{ltb, leb, leb→le}
+use lib.ListN.{length, getD}
+use borrow.Author.Tests.{ltb-true}
+use Rattle.operators.specs.Table.{kinds, kindOf, shape, shapeOf}
+use Rattle.operators.specs.Meaning.{meaning}
+use Rattle.operators.specs.laws.Meaning.{fit-used, meaning-known}
+use Rattle.operators.specs.Fixed.{pair}
+use Rattle.operators.specs.inner.Ready.{Standing, Ternary}
+use Rattle.problem.specs.declared.layout.Node.{Node}
+use Rattle.picking.specs.declared.spot.Three.{Three}
+use Rattle.picking.specs.Spot.{at}
+use Rattle.problem.specs.Layout.{nodeAt, widthAt, rootAt}
+use Rattle.problem.specs.declared.Checked.the-variants.{Accepted}
+use Rattle.problem.specs.Refusals.{checked}
+use Rattle.problem.specs.laws.Facts.{accepted-facts, node-inside}
+use Rattle.evaluation.specs.Problem.{Prob, Pairs, three, problem, count, arg, spotOf, valueOf, evalUp, evaluate, pairAt, fillUp, noPairs, pairs, pairHi}
+use Rattle.picking.specs.laws.Positions.{every-kind, few-positions}
+use Rattle.evaluation.specs.laws.Positions.{at-three}
+use Rattle.evaluation.specs.inner.Good.{Good, GoodNode}
+use Rattle.evaluation.specs.laws.Values.{length-evalUp, evalUp-lt}
+use Rattle.evaluation.specs.laws.Nodes.{value-own, value-constant, value-operator, pair-own, pair-operator, pairIn}
+use Rattle.evaluation.specs.laws.Pairs.{length-fillUp, fillUp-ternary}
+use Rattle.evaluation.specs.laws.Spot.{spot-pairs-ready}
+use Rattle.evaluation.specs.inner.Evaluation.{ids, OperandsBelow, heldIn, widthsIn, operatorIn, standingOp, Evaluable, Assigned, pairsOf, derives, Narrowed, Fillable, Filled}
+use Rattle.evaluation.specs.laws.Good.{good-of}
+
+-- a position that the code's test finds there
+pub there-below :
+    (n : Node) {k c : ℕ}
+    → OperandsBelow n k
+    → c ≡ shapeOf (n .kind) .operands
+    → (i : ℕ)
+    → ltb i c ≡ true
+    → at (ids n) i < k
+there-below n {c = c} p e i t = p i (rw e at (ltb-true i c t))
+
+-- a position that is neither the first nor the second
+pub at-third : (x : Three) (i : ℕ) → (i ≡ 0 → ⊥) → (i ≡ 1 → ⊥) → x .c ≡ at x i
+at-third x zero n m = absurd (n refl)
+at-third x (suc zero) n m = absurd (m refl)
+at-third x (suc (suc i)) n m = refl
+
+-- ---- node i of an accepted problem
+
+-- a kind uses at most two fields for each of its operands, so none where it has no operand
+few-fields : (k : ℕ) → shapeOf k .fields ≤ 2 * shapeOf k .operands
+few-fields k = leb→le _ _ (every-kind (λ o. leb (shape o .fields) (2 * shape o .operands)) kinds tt k)
+
+module _ (s vs : List ℕ) (i : ℕ) where
+  abbrev n : Node
+  n = nodeAt s i
+
+  abbrev positions : ℕ
+  positions = shapeOf (nodeAt s i .kind) .operands
+
+  -- its field a is the id of a node: an operand's, or 0
+  pub first-inside : Evaluable s vs i → nodeAt s i .a < problem s .nodes
+  unfolding problem
+  first-inside v =
+      let f = accepted-facts s (v .accepted) .node i (v .inside) in
+      let few = few-fields (n .kind) in
+      elim (decLt 0 positions) [
+        | yes h ↦ omega (arith, f .a-below h, v .inside)
+        | no x ↦ omega (arith, f .a-unused (omega arith), v .inside)
+      ]
+
+  -- its operator can be put to work
+  pub standing : Evaluable s vs i → 2 ≤ nodeAt s i .kind → Standing (standingOp s (nodeAt s i)) vs (nodeAt s i .a) (nodeAt s i .b) (nodeAt s i .c)
+  unfolding problem widthAt
+  standing v k =
+      let g : Good (problem s) = good-of s (v .accepted) in
+      let here = g .node i (v .inside) in
+      let inside : (j : ℕ) → j < positions → at (ids n) j < length vs =
+      λ j h. omega (arith, here .below j h, v .inside, v .places) in
+      let fits : (j : ℕ) → j < positions → getD vs (at (ids n) j) 0 < 2 ^ nodeAt s (at (ids n) j) .width =
+      λ j h. v .narrow (at (ids n) j) (here .below j h) in
+      record {
+        ready = record {
+          operator = k;
+          known = here .known;
+          some = here .some;
+          wide = here .wide;
+          fit = fit-used (kindOf (n .kind)) _ _ _ _ _ _ _ _ (accepted-facts s (v .accepted) .node i (v .inside) .rule)
+              (λ h. let a = g .node (n .a) (first-inside v) in (a .some, a .wide))
+              (record { a = fits 0; b = fits 1; c = fits 2 });
+        };
+        first = omega (arith, first-inside v, v .places);
+        second = inside 1;
+        third = inside 2;
+      }
+
+  -- and what it gives is the node's value
+  pub gives-value :
+      2 ≤ nodeAt s i .kind
+      → meaning (kindOf (nodeAt s i .kind)) (nodeAt s i .width) (widthAt s (nodeAt s i .a)) (widthAt s (nodeAt s i .b)) (nodeAt s i .b)
+      (getD vs (nodeAt s i .a) 0) (getD vs (nodeAt s i .b) 0) (getD vs (nodeAt s i .c) 0)
+      ≡ valueOf (problem s) vs i
+  unfolding problem widthAt
+  gives-value k =
+      let few = few-positions (n .kind) in
+      let stands : (f : ℕ → ℕ) (j : ℕ) → j < positions → f (at (ids n) j) ≡ at (three positions (λ k. f (at (ids n) k))) j =
+      λ f j h. sym (at-three positions (λ k. f (at (ids n) k)) j h few) in
+      let w : ℕ → ℕ = λ m. nodeAt s m .width in
+      let u : ℕ → ℕ = λ m. getD vs m 0 in
+      meaning-known (kindOf (n .kind)) _ _ _ _ _ _ _ _ _ _ _ _
+      (record { a = λ h. (stands w 0 h, stands u 0 h); b = λ h. (stands w 1 h, stands u 1 h); c = stands u 2 })
+      ∙ sym (value-operator (problem s) i vs k)
+
+  pub own-value : nodeAt s i .kind ≡ 0 → getD vs i 0 ≡ valueOf (problem s) vs i
+  unfolding problem
+  own-value k = sym (value-own (problem s) i vs k)
+
+  pub constant-value : nodeAt s i .kind ≡ 1 → nodeAt s i .lo ≡ valueOf (problem s) vs i
+  unfolding problem
+  constant-value k = sym (value-constant (problem s) i vs k)
+
+-- the first i nodes are evaluated
+pub evaluable :
+    (s vs us : List ℕ) (i : ℕ)
+    → Assigned s vs
+    → i < problem s .nodes
+    → us ≡ evalUp (problem s) i vs
+    → Evaluable s us i
+evaluable s vs us i a l e =
+    record {
+      accepted = a .accepted;
+      places = rw (e, length-evalUp (problem s) i vs) (a .places);
+      inside = l;
+      narrow = λ m h. rw e (evalUp-lt (problem s) (good-of s (a .accepted)) vs (a .places) (a .agrees) i (omega arith) m h);
+    }
+
+-- all nodes are
+pub evaluated-all : (P : Prob) (vs us : List ℕ) (i : ℕ) → i ≡ P .nodes → us ≡ evalUp P i vs → us ≡ evaluate P vs
+unfolding evaluate
+evaluated-all P vs us i n e = rw n at e
+
+-- ---- pairs
+
+module _ (s los his : List ℕ) (i : ℕ) where
+  abbrev both : Pairs
+  both = pairsOf los his
+
+  pub own-pair : nodeAt s i .kind < 2 → pair (nodeAt s i .lo) (nodeAt s i .hi) ≡ pairAt (problem s) (pairsOf los his) i
+  unfolding problem
+  own-pair k = sym (pair-own (problem s) i both k)
+
+  pub derives-pair : 2 ≤ nodeAt s i .kind → derives s los his (nodeAt s i) ≡ pairAt (problem s) (pairsOf los his) i
+  unfolding problem operatorIn heldIn widthsIn widthAt three
+  derives-pair k = sym (pair-operator (problem s) i both k)
+
+  -- the operator of node i can be put to work on the pairs below it
+  pub narrowed : Fillable s los his i → 2 ≤ nodeAt s i .kind → Narrowed s los his (nodeAt s i)
+  unfolding problem spotOf operatorIn heldIn widthsIn widthAt three
+  narrowed f k =
+      let P : Prob = problem s in
+      let g : Good P = good-of s (f .accepted) in
+      let here : GoodNode P i = g .node i (f .inside) in
+      let long = length-fillUp P i in
+      let ternary : (j : ℕ) → j < count P i → Ternary (P .width (arg P i j)) (pairIn both (arg P i j)) =
+      λ j b.
+      subst (λ (w : Pairs). Ternary (P .width (arg P i j)) (pairIn w (arg P i j))) (sym (f .so-far))
+      (fillUp-ternary P g i (omega (arith, f .inside)) (arg P i j) (here .below j b)) in
+      record {
+        below-lo = λ j h. omega (arith, here .below j h, f .inside, g .few, ap (λ (w : Pairs). length (w .los)) (f .so-far), long .0);
+        below-hi = λ j h. omega (arith, here .below j h, f .inside, g .few, ap (λ (w : Pairs). length (w .his)) (f .so-far), long .1);
+        ready = spot-pairs-ready P g i (f .inside) k both [] ternary;
+      }
+
+pub filled-all :
+    (s los his : List ℕ) (i : ℕ)
+    → checked s ≡ Accepted
+    → i ≡ problem s .nodes
+    → pairsOf los his ≡ fillUp (problem s) i noPairs
+    → Filled s los his
+unfolding pairs
+filled-all s los his i a n e = record { accepted = a; all = rw n at e }
+
+-- ---- roots
+
+pub root-inside : (s : List ℕ) (j : ℕ) → checked s ≡ Accepted → j < problem s .entries → rootAt s j < problem s .nodes
+unfolding problem
+root-inside s j a h = good-of s a .root-below j h
+
+pub root-hi :
+    (s los his : List ℕ) (j r : ℕ) → Filled s los his → r ≡ rootAt s j → getD his r 0 ≡ pairHi (problem s) (problem s .root j)
+unfolding problem
+root-hi s los his j r f e = ap (λ (w : Pairs). getD (w .his) r 0) (f .all) ∙ ap (pairHi (problem s)) e
+
+-- the 24 bytes of node i are there
+pub node-there : (s : List ℕ) (i : ℕ) → checked s ≡ Accepted → i < problem s .nodes → 9 + 24 * i + 24 ≤ length s
+unfolding problem
+node-there s i a h = node-inside (accepted-facts s a) i h

@@ -1,0 +1,94 @@
+-- Laws of the table of kinds: its rows as a list, and the width rule as a test and as a fact.
+use mathlib.Core.Path.{_≡_, refl, sym, ap}
+use mathlib.Core.Bool.{Bool, true, false, _&&_, _||_, false≢true}
+use mathlib.Core.List.{List, [], _∷_}
+use Prim.Native.Nat.{ℕ, zero, suc, _≤_, _<_}
+use native.Mathlib.Nat.{not-suc-le-zero, le-of-suc-le-suc, not-le-of-lt}
+use lib.Dec.{T, eqb, eqb→eq, ltb, ltb→lt}
+use lib.ListN.{length, getD, List·getD-eq-default}
+use borrow.Author.Tests.{eqb-true, leb-true, eq-eqb, le-leb}
+use Rattle.words.specs.laws.Cases.{every, every-at}
+use Rattle.operators.specs.declared.table.Rule.{Rule}
+use Rattle.operators.specs.declared.table.Rule.the-variants.{Free, One, Both, Equal, Choice, Sum, Part}
+use Rattle.operators.specs.declared.table.Shape.{Shape}
+use Rattle.operators.specs.Table.{Kind, variable, kinds, shape, shapeOf, RuleMet, ruleHolds}
+
+-- the rows of some kinds
+abbrev pub rows : List Kind → List Shape
+rows [] = []
+rows (o ∷ os) = shape o ∷ rows os
+
+row-of : (d : Shape) (os : List Kind) (k : ℕ) → k < length os → getD (rows os) k d ≡ shape (getD os k variable)
+row-of d [] k h = absurd (not-suc-le-zero h)
+row-of d (o ∷ os) zero h = refl
+row-of d (o ∷ os) (suc k) h = row-of d os k (le-of-suc-le-suc h)
+
+pub row-is : (d : Shape) (k : ℕ) → k < 14 → getD (rows kinds) k d ≡ shapeOf k
+row-is d k h = row-of d kinds k h
+
+pub row-none : (k : ℕ) → 14 ≤ k → shape variable ≡ shapeOf k
+row-none k h = ap shape (sym (List·getD-eq-default kinds variable h))
+
+pub or-right : (a b : Bool) → T (a || b) → (T a → ⊥) → T b
+or-right true b h f = absurd (f tt)
+or-right false b h f = h
+
+-- the kinds from lo up to hi have n operands: one computed test of them
+pub counted :
+    (lo hi n : ℕ)
+    → T (every hi (λ x. ltb x lo || eqb n (shapeOf x .operands)))
+    → (k : ℕ)
+    → lo ≤ k
+    → k < hi
+    → n ≡ shapeOf k .operands
+counted lo hi n t k l u =
+    eqb→eq n (shapeOf k .operands)
+    (or-right (ltb k lo) (eqb n (shapeOf k .operands)) (every-at hi (λ x. ltb x lo || eqb n (shapeOf x .operands)) t k u)
+    (λ h. not-le-of-lt (ltb→lt k lo h) l))
+
+-- what holds of each kind of a list and its number
+abbrev pub AllFrom : (ℕ → Kind → Type 0) → List Kind → Type 0
+AllFrom P [] = Unit {0}
+AllFrom P (o ∷ os) = P zero o × AllFrom (λ n. P (suc n)) os
+
+pub each : (P : ℕ → Kind → Type 0) (os : List Kind) → AllFrom P os → (n : ℕ) → n < length os → P n (getD os n variable)
+each P [] h n l = absurd (not-suc-le-zero l)
+each P (o ∷ os) h zero l = h .0
+each P (o ∷ os) h (suc n) l = each (λ n. P (suc n)) os (h .1) n (le-of-suc-le-suc l)
+
+both-left : (a b : Bool) → (a && b) ≡ true → a ≡ true
+both-left true b h = refl
+both-left false b h = h
+
+both-right : (a b : Bool) → (a && b) ≡ true → b ≡ true
+both-right true b h = h
+both-right false b h = absurd (false≢true h)
+
+both-of : {a b : Bool} → a ≡ true → b ≡ true → (a && b) ≡ true
+both-of p q = rw (p, q)
+
+-- the test says what the fact says
+pub rule-met : (r : Rule) (w wa wb wc b : ℕ) → ruleHolds r w wa wb wc b ≡ true → RuleMet r w wa wb wc b
+unfolding ruleHolds
+rule-met Free w wa wb wc b h = tt
+rule-met One w wa wb wc b h = eqb-true _ _ h
+rule-met Both w wa wb wc b h = (eqb-true _ _ (both-left (eqb wa w) (eqb wb w) h), eqb-true _ _ (both-right (eqb wa w) (eqb wb w) h))
+rule-met Equal w wa wb wc b h = (eqb-true _ _ (both-left (eqb wa wb) (eqb w 1) h), eqb-true _ _ (both-right (eqb wa wb) (eqb w 1) h))
+rule-met Choice w wa wb wc b h =
+    let l = both-left (eqb wa 1 && eqb wb w) (eqb wc w) h in (
+      eqb-true _ _ (both-left (eqb wa 1) (eqb wb w) l),
+      eqb-true _ _ (both-right (eqb wa 1) (eqb wb w) l),
+      eqb-true _ _ (both-right (eqb wa 1 && eqb wb w) (eqb wc w) h),
+    )
+rule-met Sum w wa wb wc b h = eqb-true _ _ h
+rule-met Part w wa wb wc b h = leb-true _ _ h
+
+pub rule-tested : (r : Rule) (w wa wb wc b : ℕ) → RuleMet r w wa wb wc b → ruleHolds r w wa wb wc b ≡ true
+unfolding ruleHolds
+rule-tested Free w wa wb wc b h = refl
+rule-tested One w wa wb wc b h = eq-eqb _ _ h
+rule-tested Both w wa wb wc b h = both-of (eq-eqb _ _ (h .0)) (eq-eqb _ _ (h .1))
+rule-tested Equal w wa wb wc b h = both-of (eq-eqb _ _ (h .0)) (eq-eqb _ _ (h .1))
+rule-tested Choice w wa wb wc b h = both-of (both-of (eq-eqb _ _ (h .0)) (eq-eqb _ _ (h .1))) (eq-eqb _ _ (h .2))
+rule-tested Sum w wa wb wc b h = eq-eqb _ _ h
+rule-tested Part w wa wb wc b h = le-leb _ _ h

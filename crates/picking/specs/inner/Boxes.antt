@@ -1,0 +1,95 @@
+-- Sets of words as unions of boxes: what is in one, and when one holds the solutions of an equation.
+use mathlib.Core.Path.{_≡_}
+use mathlib.Core.Bool.{true}
+use Prim.Native.Nat.{ℕ, _+_, _-_, _*_, _/_, _%_, _^_, _≤_, _<_}
+use lib.Bits.{bitAnd, bitOr}
+use Rattle.words.specs.Agree.{Agrees}
+use Rattle.words.specs.inner.Words.{over}
+use Rattle.words.specs.Pick.{Between}
+use Rattle.picking.specs.declared.boxes.Box.{Box}
+use Rattle.picking.specs.declared.boxes.Set.{Set}
+use Rattle.picking.specs.declared.boxes.Set.the-variants.{Empty, Only, One, Many}
+use Rattle.picking.specs.declared.unions.Shifts.{Shifts}
+use Rattle.picking.specs.declared.unions.Shifts.the-variants.{Left, Right}
+use Rattle.picking.specs.declared.unions.Union.{Union}
+use Rattle.picking.specs.declared.unions.Union.the-variants.{Except, Low, Shifted}
+
+-- v lies in the box: it agrees with its ternary word and lies in its interval
+abbrev pub In : Box → ℕ → Type 0
+In b v = Between (Agrees (b .lo) (b .hi)) (b .least) (b .most) v
+
+-- the values from a to b
+abbrev pub span : ℕ → ℕ → Box
+span a b = record { lo = 0; hi = 2 ^ 64 - 1; least = a; most = b }
+
+-- the values that agree with l, h
+abbrev pub word : ℕ → ℕ → Box
+word l h = record { lo = l; hi = h; least = 0; most = 2 ^ 64 - 1 }
+
+-- the values whose n low bits are c
+abbrev pub lowAre : ℕ → ℕ → Box
+lowAre n c = word c (over n (2 ^ 64 - 1) c)
+
+-- the values of the box that agree with lo, hi
+abbrev pub met : Box → ℕ → ℕ → Box
+met b l h = record { lo = bitOr l (b .lo); hi = bitAnd h (b .hi); least = b .least; most = b .most }
+
+-- what a shift by j takes to the target
+abbrev pub boxOf : Shifts → ℕ → Box
+boxOf (Left t w) j = lowAre (w - j) (t / 2 ^ j)
+boxOf (Right t) j = span (t * 2 ^ j) (t * 2 ^ j + (2 ^ j - 1))
+
+-- v is in the box of a shift by less than n
+pub record Among (S : Shifts) (n v : ℕ) : Type 0 where
+  pub at : ℕ
+  pub below : at < n
+  pub inside : In (boxOf S at) v
+
+-- v is in the set
+abbrev pub HasOf : Union → ℕ → Type 0
+HasOf (Except s) v = v ≡ s → ⊥
+HasOf (Low m) v = v % 2 ^ m ≡ 0 → ⊥
+HasOf (Shifted S n) v = Among S n v
+
+abbrev pub Has : Set → ℕ → Type 0
+Has Empty v = ⊥
+Has (Only c there) v = (v ≡ c) × (there ≡ true)
+Has (One b) v = In b v
+Has (Many U) v = HasOf U v
+
+-- its boxes are boxes of words of 64 bits
+abbrev pub FineOf : Union → Type 0
+FineOf (Except s) = Unit {0}
+FineOf (Low m) = m ≤ 64
+FineOf (Shifted (Left t w) n) = (n ≤ w) × (w ≤ 64) × (t < 2 ^ w)
+FineOf (Shifted (Right t) n) = (n ≤ 64) × ((j : ℕ) → j < n → t * 2 ^ j + 2 ^ j ≤ 2 ^ 64)
+
+abbrev pub Fine : Set → Type 0
+Fine Empty = Unit {0}
+Fine (Only c there) = Unit {0}
+Fine (One b) = Unit {0}
+Fine (Many U) = FineOf U
+
+-- v agrees with a pair and is in the set
+pub record Chosen (S : Set) (lo hi v : ℕ) : Type 0 where
+  pub agrees : Agrees lo hi v
+  pub has : Has S v
+
+abbrev pub ChosenOf : Union → ℕ → ℕ → ℕ → Type 0
+ChosenOf U = Chosen (Many U)
+
+-- the set's members of w bits are the solutions of P: what a set-valued function promises
+pub record Solves (w : ℕ) (P : ℕ → Type 0) (S : Set) : Type 0 where
+  pub fine : Fine S
+  pub to : (v : ℕ) → v < 2 ^ w → Has S v → P v
+  pub back : (v : ℕ) → v < 2 ^ w → P v → Has S v
+
+-- every value
+abbrev pub Every : ℕ → Type 0
+Every v = Unit {0}
+
+-- a value of w bits of which Q holds
+pub record Some (w : ℕ) (Q : ℕ → Type 0) : Type 0 where
+  pub by : ℕ
+  pub fits : by < 2 ^ w
+  pub gives : Q by

@@ -1,0 +1,246 @@
+-- Document 01, "Numbers to test by": those marked P, of the definitions, as one table.
+use mathlib.Core.Path.{_≡_, refl, sym, subst, _∙_}
+use mathlib.Core.Logic.{_⊎_, inl, inr, ⊎-elim}
+use mathlib.Core.Bool.{Bool, true, false, _&&_, _||_}
+use mathlib.Core.List.{List, [], _∷_}
+use Prim.Native.Nat.{ℕ, zero, suc, _-_, _*_, _%_, _^_, _≤_, _<_}
+use native.Mathlib.Nat.{le-of-eq, mod-eq-of-lt}
+use native.Mathlib.Omega.{arith}
+use lib.Dec.{T, eqb, ltb, eqb→eq, ltb→lt}
+use lib.Count.{trailingZeros}
+use lib.Ieee.Fits.{and-l, and-r}
+use borrow.Author.Tests.{ltb-true}
+use Rattle.words.specs.laws.Bits.{lt-or-ge}
+use Rattle.words.specs.Agree.{Agrees}
+use Rattle.words.specs.laws.Agree.{agrees-lt, agrees-of-within, within-zero, within-ones, within-hi, within-le}
+use Rattle.words.specs.laws.Cases.{every, every-at, Passes, pickIs, pick-of}
+use Rattle.words.specs.laws.Mul.{solve}
+use Rattle.words.specs.Pick.{Pick, above}
+use Rattle.words.specs.laws.Pick.{pick-same}
+use Rattle.operators.specs.declared.fixed.Pair.{Pair}
+use Rattle.operators.specs.Table.{add}
+use Rattle.operators.specs.Meaning.{flag}
+use Rattle.operators.specs.Fixed.{pair, pairOf}
+use Rattle.picking.specs.declared.spot.Spot.{Spot}
+use Rattle.picking.specs.Spot.{at, positions, Inverse, Consistent, Essential}
+use Rattle.picking.specs.laws.Tests.{agrees-to, inverseB, inverse-to, inverse-back, consistentB, consistent-to, consistent-back}
+
+-- ---- the statement
+
+-- v is one of a list
+abbrev pub Listed : List ℕ → ℕ → Type 0
+Listed [] v = ⊥
+Listed (x ∷ xs) v = (v ≡ x) ⊎ Listed xs v
+
+-- the members of A are those of a list, and nothing else
+pub record Exactly (A : ℕ → Type 0) (vs : List ℕ) : Type 0 where
+  pub only : (v : ℕ) → A v → Listed vs v
+  pub all : (v : ℕ) → Listed vs v → A v
+
+-- an operand: its width, its pair and its current value; one whose bits are all free, and a number
+pub record Operand : Type 0 where
+  pub wide : ℕ
+  pub lo : ℕ
+  pub hi : ℕ
+  pub now : ℕ
+
+abbrev pub operand : ℕ → ℕ → ℕ → ℕ → Operand
+operand w l h v = record { wide = w; lo = l; hi = h; now = v }
+
+abbrev pub free : ℕ → Operand
+free w = operand w 0 (2 ^ w - 1) 0
+
+abbrev pub number : ℕ → ℕ → Operand
+number w v = operand w v v v
+
+-- a node of a kind and a width with the operands x and y
+abbrev pub node : ℕ → ℕ → Operand → Operand → Spot
+node k w x y = record {
+  kind = k;
+  width = w;
+  low = 0;
+  widths = record { a = x .wide; b = y .wide; c = 0 };
+  los = record { a = x .lo; b = y .lo; c = 0 };
+  his = record { a = x .hi; b = y .hi; c = 0 };
+  current = record { a = x .now; b = y .now; c = 0 };
+}
+
+-- the kinds by their numbers: 3 and, 5 add, 6 mul, 7 shl, 8 lshr, 9 eq, 10 below; x stands at position 0 but in the shl
+pub record PaperNumbers : Type 0 where
+  -- "4 bits, x · 6 = 2: inverse set 3, 11. Proposal 4 gives 11; 12 gives 3."
+  pub product : Exactly (Inverse (node 6 4 (free 4) (number 4 6)) 2 0) (3 ∷ 11 ∷ [])
+  pub product-4 : Pick (Inverse (node 6 4 (free 4) (number 4 6)) 2 0) 4 11
+  pub product-12 : Pick (Inverse (node 6 4 (free 4) (number 4 6)) 2 0) 12 3
+  -- "2 bits, x fixed to 1 on top, x · 3 = 1: 3 only. x · 0 = 1: no inverse; consistent: 3."
+  pub top : Exactly (Inverse (node 6 2 (operand 2 2 3 2) (number 2 3)) 1 0) (3 ∷ [])
+  pub by-zero : Exactly (Inverse (node 6 2 (operand 2 2 3 2) (number 2 0)) 1 0) []
+  pub by-some : Exactly (Consistent (node 6 2 (operand 2 2 3 2) (number 2 0)) 1 0) (3 ∷ [])
+  -- "64 bits, x · 2 = 0: 0 and 2^63; proposal 1 gives 2^63."
+  pub wide : Exactly (Inverse (node 6 64 (free 64) (number 64 2)) 0 0) (0 ∷ 2 ^ 63 ∷ [])
+  pub wide-1 : Pick (Inverse (node 6 64 (free 64) (number 64 2)) 0 0) 1 (2 ^ 63)
+  -- "8 bits, x + 200 = 44: 100."
+  pub sum : Exactly (Inverse (node 5 8 (free 8) (number 8 200)) 44 0) (100 ∷ [])
+  -- "4 bits, x & 14: target 1 has no inverse; target 2 has 2 and 3."
+  pub mask-1 : Exactly (Inverse (node 3 4 (free 4) (number 4 14)) 1 0) []
+  pub mask-2 : Exactly (Inverse (node 3 4 (free 4) (number 4 14)) 2 0) (2 ∷ 3 ∷ [])
+  -- "4 bits, 6 shl x = 0: 3 to 15; with the top two bits of x fixed at 0, only 3."
+  pub amount : Exactly (Inverse (node 7 4 (number 4 6) (free 4)) 0 1) (3 ∷ 4 ∷ 5 ∷ 6 ∷ 7 ∷ 8 ∷ 9 ∷ 10 ∷ 11 ∷ 12 ∷ 13 ∷ 14 ∷ 15 ∷ [])
+  pub amount-low : Exactly (Inverse (node 7 4 (number 4 6) (operand 4 0 3 0)) 0 1) (3 ∷ [])
+  -- "4 bits, x lshr s = 6, consistent: 6, 12, 13; proposal 7 gives 12."
+  pub shifted : Exactly (Consistent (node 8 4 (free 4) (free 4)) 6 0) (6 ∷ 12 ∷ 13 ∷ [])
+  pub shifted-7 : Pick (Consistent (node 8 4 (free 4) (free 4)) 6 0) 7 12
+  -- "4 bits, x below s, target 1, x now 11, s now 8 with pair 8, 9: x is essential, s is not."
+  pub x-essential : Essential (node 10 1 (operand 4 0 15 11) (operand 4 8 9 8)) 1 0
+  pub s-not-essential : Essential (node 10 1 (operand 4 0 15 11) (operand 4 8 9 8)) 1 1 → ⊥
+  -- "1 bit, (x eq 1), target 0: 0; with x fixed at 1, nothing."
+  pub equal : Exactly (Inverse (node 9 1 (free 1) (number 1 1)) 0 0) (0 ∷ [])
+  pub equal-fixed : Exactly (Inverse (node 9 1 (number 1 1) (number 1 1)) 0 0) []
+  -- "4 bits, x with low bits 01 and top two free, plus 3: fixed low bits 00, top two free."
+  pub fixed-sum : (r : Pair) → pairOf add 4 4 4 0 (pair 1 13) (pair 3 3) r ≡ pair 0 12
+
+-- ---- its proof: small widths by a test of every value, 64 bits by law
+
+abbrev listedB : List ℕ → ℕ → Bool
+listedB [] v = false
+listedB (x ∷ xs) v = eqb v x || listedB xs v
+
+abbrev sameB : Bool → Bool → Bool
+sameB true b = b
+sameB false true = false
+sameB false false = true
+
+abbrev allB : (ℕ → Bool) → List ℕ → Bool
+allB f [] = true
+allB f (x ∷ xs) = f x && allB f xs
+
+-- the list has the numbers below n that pass the test, and no other
+abbrev exactlyB : ℕ → (ℕ → Bool) → List ℕ → Bool
+exactlyB n f vs = every n (λ v. sameB (f v) (listedB vs v)) && allB (λ v. ltb v n && f v) vs
+
+listed-to : (vs : List ℕ) (v : ℕ) → T (listedB vs v) → Listed vs v
+listed-to [] v k = k
+listed-to (x ∷ xs) v k = go (eqb v x) refl k (listed-to xs v)
+  where
+    go : (b : Bool) → eqb v x ≡ b → T (b || listedB xs v) → (T (listedB xs v) → Listed xs v) → (v ≡ x) ⊎ Listed xs v
+    go true e q ih = inl (eqb→eq v x (subst T (sym e) tt))
+    go false e q ih = inr (ih q)
+
+all-at : (f : ℕ → Bool) (vs : List ℕ) → T (allB f vs) → (v : ℕ) → Listed vs v → T (f v)
+all-at f [] k v m = absurd m
+all-at f (x ∷ xs) k v (inl e) = subst (λ (n : ℕ). T (f n)) (sym e) (and-l (f x) (allB f xs) k)
+all-at f (x ∷ xs) k v (inr m) = all-at f xs (and-r (f x) (allB f xs) k) v m
+
+same-to : (a b : Bool) → T (sameB a b) → T a → T b
+same-to true b k h = k
+same-to false b k h = absurd h
+
+module _ (A : ℕ → Type 0) (n : ℕ) (f : ℕ → Bool) (to : (v : ℕ) → Passes n f v → A v) (back : (v : ℕ) → A v → Passes n f v) where
+  exactly-of : (vs : List ℕ) → T (exactlyB n f vs) → Exactly A vs
+  exactly-of vs k = record {
+    only = λ v m. let p = back v m in listed-to vs v (same-to (f v) (listedB vs v) (every-at n told here v (p .below)) (p .passes));
+    all = λ v m. let q = all-at kept vs there v m in to v (record { below = ltb→lt v n (and-l (ltb v n) (f v) q); passes = and-r (ltb v n) (f v) q });
+  }
+    where
+      told : ℕ → Bool
+      told = λ v. sameB (f v) (listedB vs v)
+
+      kept : ℕ → Bool
+      kept = λ v. ltb v n && f v
+
+      here : T (every n told)
+      here = and-l (every n told) (allB kept vs) k
+
+      there : T (allB kept vs)
+      there = and-r (every n told) (allB kept vs) k
+
+  pick-at : (p v : ℕ) → T (pickIs n f p v) → Pick A p v
+  pick-at p v k = pick-same (Passes n f) A to back p v (pick-of n f p v k)
+
+module _ (S : Spot) (t i : ℕ) (under : at (S .his) i < 2 ^ at (S .widths) i) where
+  inverses : (vs : List ℕ) → T (exactlyB (2 ^ at (S .widths) i) (inverseB S t i) vs) → Exactly (Inverse S t i) vs
+  inverses = exactly-of (Inverse S t i) (2 ^ at (S .widths) i) (inverseB S t i) (inverse-to S t i under) (inverse-back S t i under)
+
+  inverse-pick : (p v : ℕ) → T (pickIs (2 ^ at (S .widths) i) (inverseB S t i) p v) → Pick (Inverse S t i) p v
+  inverse-pick = pick-at (Inverse S t i) (2 ^ at (S .widths) i) (inverseB S t i) (inverse-to S t i under) (inverse-back S t i under)
+
+  module _ (here : i < positions S) where
+    consistents : (vs : List ℕ) → T (exactlyB (2 ^ at (S .widths) i) (consistentB S t i) vs) → Exactly (Consistent S t i) vs
+    consistents = exactly-of (Consistent S t i) (2 ^ at (S .widths) i) (consistentB S t i) (consistent-to S t i under here) (consistent-back S t i under here)
+
+    consistent-pick : (p v : ℕ) → T (pickIs (2 ^ at (S .widths) i) (consistentB S t i) p v) → Pick (Consistent S t i) p v
+    consistent-pick = pick-at (Consistent S t i) (2 ^ at (S .widths) i) (consistentB S t i) (consistent-to S t i under here) (consistent-back S t i under here)
+
+-- 64 bits: the low 63 bits are settled at 0, and the top bit is free
+wide-set : Exactly (Inverse (node 6 64 (free 64) (number 64 2)) 0 0) (0 ∷ 2 ^ 63 ∷ [])
+wide-set = record { only = λ v m. low v (agrees-lt 64 (omega arith) (m .agrees)) (solve 63 1 1 1 (record { one = refl }) v 0 (m .gives) .1); all = back }
+  where
+    low : (v : ℕ) → v < 2 ^ 64 → v % 2 ^ 63 ≡ 0 → (v ≡ 0) ⊎ (v ≡ 2 ^ 63) ⊎ ⊥
+    low v h e = ⊎-elim (λ (l : v < 2 ^ 63). inl (sym (mod-eq-of-lt l) ∙ e)) (λ (l : 2 ^ 63 ≤ v). inr (inl (omega arith))) (lt-or-ge v (2 ^ 63))
+
+    at-top : (v : ℕ) → v < 2 ^ 64 → v * 2 % 2 ^ 64 ≡ 0 → Inverse (node 6 64 (free 64) (number 64 2)) 0 0 v
+    at-top v h e = record { agrees = agrees-of-within (within-zero v) (within-ones 64 h); gives = e }
+
+    back : (v : ℕ) → Listed (0 ∷ 2 ^ 63 ∷ []) v → Inverse (node 6 64 (free 64) (number 64 2)) 0 0 v
+    back v (inl e) = at-top v (omega arith) (rw e)
+    back v (inr (inl e)) = at-top v (omega arith) (rw e)
+    back v (inr (inr e)) = absurd e
+
+wide-pick : Pick (Inverse (node 6 64 (free 64) (number 64 2)) 0 0) 1 (2 ^ 63)
+wide-pick = above (record { member = wide-set .all (2 ^ 63) (inr (inl refl)); from = omega arith; least = λ u m l. go u (wide-set .only u m) l })
+  where
+    go : (u : ℕ) → (u ≡ 0) ⊎ (u ≡ 2 ^ 63) ⊎ ⊥ → 1 ≤ u → 2 ^ 63 ≤ u
+    go u (inl e) l = absurd (omega arith)
+    go u (inr (inl e)) l = le-of-eq (sym e)
+    go u (inr (inr e)) l = absurd e
+
+-- 11 is below no value of s, which is 8 or 9; 8 has a value of x below it
+abbrev order : Spot
+order = node 10 1 (operand 4 0 15 11) (operand 4 8 9 8)
+
+x-must : Essential order 1 0
+unfolding Essential
+x-must o g m =
+    let l = ltb-true 11 (o .b) (told (ltb 11 (o .b)) m) in
+    let u = within-le (within-hi (g 1 (record { below = omega arith; apart = λ e. omega arith }))) in
+    omega arith
+  where
+    told : (b : Bool) → flag b ≡ 1 → b ≡ true
+    told true e = refl
+    told false e = absurd (omega arith)
+
+s-may : Essential order 1 1 → ⊥
+unfolding Essential
+s-may E = E (record { a = 0; b = 8; c = 0 }) (λ j q. agrees j (q .below) (q .apart)) refl
+  where
+    agrees : (j : ℕ) → j < 2 → (j ≡ 1 → ⊥) → Agrees (at (order .los) j) (at (order .his) j) (at (record { a = 0; b = 8; c = 0 }) j)
+    agrees zero l f = agrees-to 0 15 0 tt
+    agrees (suc zero) l f = absurd (f refl)
+    agrees (suc (suc j)) l f = absurd (omega arith)
+
+sum-pair : (r : Pair) → pairOf add 4 4 4 0 (pair 1 13) (pair 3 3) r ≡ pair 0 12
+unfolding trailingZeros
+sum-pair r = refl
+
+pub paper-numbers : PaperNumbers
+paper-numbers = record {
+  product = inverses (node 6 4 (free 4) (number 4 6)) 2 0 (omega arith) (3 ∷ 11 ∷ []) tt;
+  product-4 = inverse-pick (node 6 4 (free 4) (number 4 6)) 2 0 (omega arith) 4 11 tt;
+  product-12 = inverse-pick (node 6 4 (free 4) (number 4 6)) 2 0 (omega arith) 12 3 tt;
+  top = inverses (node 6 2 (operand 2 2 3 2) (number 2 3)) 1 0 (omega arith) (3 ∷ []) tt;
+  by-zero = inverses (node 6 2 (operand 2 2 3 2) (number 2 0)) 1 0 (omega arith) [] tt;
+  by-some = consistents (node 6 2 (operand 2 2 3 2) (number 2 0)) 1 0 (omega arith) (omega arith) (3 ∷ []) tt;
+  wide = wide-set;
+  wide-1 = wide-pick;
+  sum = inverses (node 5 8 (free 8) (number 8 200)) 44 0 (omega arith) (100 ∷ []) tt;
+  mask-1 = inverses (node 3 4 (free 4) (number 4 14)) 1 0 (omega arith) [] tt;
+  mask-2 = inverses (node 3 4 (free 4) (number 4 14)) 2 0 (omega arith) (2 ∷ 3 ∷ []) tt;
+  amount = inverses (node 7 4 (number 4 6) (free 4)) 0 1 (omega arith) (3 ∷ 4 ∷ 5 ∷ 6 ∷ 7 ∷ 8 ∷ 9 ∷ 10 ∷ 11 ∷ 12 ∷ 13 ∷ 14 ∷ 15 ∷ []) tt;
+  amount-low = inverses (node 7 4 (number 4 6) (operand 4 0 3 0)) 0 1 (omega arith) (3 ∷ []) tt;
+  shifted = consistents (node 8 4 (free 4) (free 4)) 6 0 (omega arith) (omega arith) (6 ∷ 12 ∷ 13 ∷ []) tt;
+  shifted-7 = consistent-pick (node 8 4 (free 4) (free 4)) 6 0 (omega arith) (omega arith) 7 12 tt;
+  x-essential = x-must;
+  s-not-essential = s-may;
+  equal = inverses (node 9 1 (free 1) (number 1 1)) 0 0 (omega arith) (0 ∷ []) tt;
+  equal-fixed = inverses (node 9 1 (number 1 1) (number 1 1)) 0 0 (omega arith) [] tt;
+  fixed-sum = sum-pair;
+}

@@ -1,0 +1,5 @@
+-- Laws of the definitions, for proofs. Nothing here has to be read to know what is promised.
+pub mod Facts
+pub mod First
+pub mod Layout
+pub mod Tests

@@ -1,0 +1,196 @@
+-- A problem is accepted exactly if it has the facts, and what the layers above draw from them.
+use mathlib.Core.Path.{_≡_, _∙_}
+use mathlib.Core.Bool.{false, not, _&&_, _||_}
+use mathlib.Core.List.{List}
+use mathlib.Core.Logic.{_↔_}
+use Prim.Native.Nat.{ℕ, _+_, _*_, _^_, _≤_, _<_}
+use native.Mathlib.Omega.{arith}
+use lib.Dec.{ltb, leb, eqb}
+use lib.ListN.{length, getD}
+use Rattle.words.specs.Agree.{Within}
+use Rattle.operators.specs.Table.{shapeOf, RuleMet, ruleHolds}
+use Rattle.operators.specs.laws.Table.{rule-met, rule-tested}
+use Rattle.problem.specs.declared.Checked.{Checked}
+use Rattle.problem.specs.declared.Checked.the-variants.{Accepted}
+use Rattle.problem.specs.declared.layout.Node.{Node}
+use Rattle.problem.specs.Layout.{nodeCount, rootCount, nodeAt, widthAt, rootStart, rootAt}
+use Rattle.problem.specs.Refusals.{_then_, firstBelow, bitOutside, markWrong, operandAbove, strayField, pairBroken, headerLines, headerFault, nodeLines, faultOf, nodeFault, rootLines, rootFault, checked}
+use Rattle.problem.specs.inner.Facts.{HeaderFacts, NodeFacts, Facts}
+use Rattle.problem.specs.laws.Tests.{lt-yes, lt-no, le-yes, le-no, eq-yes, eq-no, not-no, or-no, and-no}
+use Rattle.problem.specs.laws.First.{then-left, then-right, then-accepted, NoneOf, none-of, of-none, first-each, first-all}
+
+-- a number is the one asked for
+same : (m n : ℕ) → (not (eqb m n) ≡ false) ↔ (m ≡ n)
+same m n = not-no (eq-yes m n)
+
+-- six lines of which none is given, as `NoneOf` has them
+six : {A B C D E F : Type 0} → A → B → C → D → E → F → A × (B × (C × (D × (E × (F × Unit {0})))))
+six a b c d e f = (a, (b, (c, (d, (e, (f, tt))))))
+
+-- 1 to 6
+
+mark-right : (s : List ℕ) → (markWrong s ≡ false) ↔ (((getD s 0 0 ≡ 84) × (getD s 1 0 ≡ 66)) × (getD s 2 0 ≡ 86))
+unfolding markWrong
+mark-right s = or-no (or-no (same (getD s 0 0) 84) (same (getD s 1 0) 66)) (same (getD s 2 0) 86)
+
+header-facts : (s : List ℕ) → NoneOf (headerLines s) → HeaderFacts s
+unfolding headerLines
+header-facts s f =
+    let m = mark-right s .0 (f .1 .0) in
+    record {
+      long = lt-no _ _ .0 (f .0);
+      mark-t = m .0 .0;
+      mark-b = m .0 .1;
+      mark-v = m .1;
+      version-one = same _ _ .0 (f .1 .1 .0);
+      nodes = lt-no _ _ .0 (f .1 .1 .1 .0);
+      roots = lt-no _ _ .0 (f .1 .1 .1 .1 .0);
+      whole = same _ _ .0 (f .1 .1 .1 .1 .1 .0);
+    }
+
+facts-header : (s : List ℕ) → HeaderFacts s → NoneOf (headerLines s)
+unfolding headerLines
+facts-header s h =
+    six (lt-no _ _ .1 (h .long)) (mark-right s .1 ((h .mark-t, h .mark-b), h .mark-v)) (same _ _ .1 (h .version-one))
+    (lt-no _ _ .1 (h .nodes)) (lt-no _ _ .1 (h .roots)) (same _ _ .1 (h .whole))
+
+-- 7 to 12
+
+width-right : (w : ℕ) → ((eqb w 0 || ltb 64 w) ≡ false) ↔ ((w ≡ 0 → ⊥) × (w ≤ 64))
+width-right w = or-no (eq-no w 0) (lt-no 64 w)
+
+-- an operand that the kind has is below the node
+below-right : (k m x i : ℕ) → ((ltb m k && leb i x) ≡ false) ↔ (m < k → x < i)
+below-right k m x i = and-no (lt-yes m k) (le-no i x)
+
+operands-right :
+    (n : Node) (k i : ℕ)
+    → (operandAbove n k i ≡ false) ↔ (((0 < k → n .a < i) × (1 < k → n .b < i)) × (2 < k → n .c < i))
+unfolding operandAbove
+operands-right n k i = or-no (or-no (below-right k 0 (n .a) i) (below-right k 1 (n .b) i)) (below-right k 2 (n .c) i)
+
+-- a field that the kind does not use is 0
+unused-right : (f m x : ℕ) → ((leb f m && not (eqb x 0)) ≡ false) ↔ (f ≤ m → x ≡ 0)
+unused-right f m x = and-no (le-yes f m) (same x 0)
+
+fields-right :
+    (n : Node) (f : ℕ)
+    → (strayField n f ≡ false)
+    ↔ ((((f ≤ 0 → n .a ≡ 0) × (f ≤ 1 → n .b ≡ 0)) × (f ≤ 2 → n .c ≡ 0)) × (2 ≤ n .kind → (n .lo ≡ 0) × (n .hi ≡ 0)))
+unfolding strayField
+fields-right n f =
+    or-no (or-no (or-no (unused-right f 0 (n .a)) (unused-right f 1 (n .b))) (unused-right f 2 (n .c)))
+    (and-no (le-yes 2 (n .kind)) (or-no (same (n .lo) 0) (same (n .hi) 0)))
+
+rule-right : (n : Node) (wa wb wc : ℕ)
+    → (not (ruleHolds (shapeOf (n .kind) .rule) (n .width) wa wb wc (n .b)) ≡ false)
+    ↔ RuleMet (shapeOf (n .kind) .rule) (n .width) wa wb wc (n .b)
+rule-right n wa wb wc = not-no (rule-met _ _ _ _ _ _, rule-tested _ _ _ _ _ _)
+
+pub within-right : (lo hi : ℕ) → (bitOutside lo hi ≡ false) ↔ Within lo hi
+unfolding bitOutside
+within-right lo hi = (λ h. record { is = same _ _ .0 h }, λ h. same _ _ .1 (h .is))
+
+pair-right :
+    (n : Node)
+    → (pairBroken n ≡ false)
+    ↔ (n .kind ≤ 1 → (Within (n .lo) (n .hi) × (n .hi < 2 ^ n .width)) × (n .kind ≡ 1 → n .lo ≡ n .hi))
+unfolding pairBroken
+pair-right n =
+    and-no (le-yes (n .kind) 1)
+    (or-no (or-no (within-right (n .lo) (n .hi)) (le-no (2 ^ n .width) (n .hi))) (and-no (eq-yes (n .kind) 1) (same (n .lo) (n .hi))))
+
+module _ (n : Node) (i wa wb wc : ℕ) where
+  node-facts : NoneOf (nodeLines n i wa wb wc) → NodeFacts n i wa wb wc
+  unfolding nodeLines
+  node-facts f =
+      let w = width-right (n .width) .0 (f .1 .0) in
+      let o = operands-right n (shapeOf (n .kind) .operands) i .0 (f .1 .1 .0) in
+      let u = fields-right n (shapeOf (n .kind) .fields) .0 (f .1 .1 .1 .0) in
+      let p = pair-right n .0 (f .1 .1 .1 .1 .1 .0) in
+      record {
+        kind-known = lt-no _ _ .0 (f .0);
+        width-some = let z : (n .width ≡ 0 → ⊥) = w .0 in omega arith;
+        width-most = w .1;
+        a-below = o .0 .0;
+        b-below = o .0 .1;
+        c-below = o .1;
+        a-unused = u .0 .0 .0;
+        b-unused = u .0 .0 .1;
+        c-unused = u .0 .1;
+        lo-unused = λ k. u .1 k .0;
+        hi-unused = λ k. u .1 k .1;
+        rule = rule-right n wa wb wc .0 (f .1 .1 .1 .1 .0);
+        lo-inside = λ k. p k .0 .0;
+        hi-fits = λ k. p k .0 .1;
+        constant-fixed = λ e. p (omega arith) .1 e;
+      }
+
+  facts-node : NodeFacts n i wa wb wc → NoneOf (nodeLines n i wa wb wc)
+  unfolding nodeLines
+  facts-node h =
+      six (lt-no _ _ .1 (h .kind-known)) (width-right (n .width) .1 (λ e. let l = h .width-some in omega arith, h .width-most))
+      (operands-right n _ i .1 ((h .a-below, h .b-below), h .c-below))
+      (fields-right n _ .1 (((h .a-unused, h .b-unused), h .c-unused), λ k. (h .lo-unused k, h .hi-unused k)))
+      (rule-right n wa wb wc .1 (h .rule)) (pair-right n .1 (λ k. ((h .lo-inside k, h .hi-fits k), h .constant-fixed)))
+
+-- 13
+
+root-right :
+    (s : List ℕ) (j : ℕ) → (NoneOf (rootLines s j)) ↔ ((rootAt s j < nodeCount s) × (widthAt s (rootAt s j) ≡ 1))
+unfolding rootLines
+root-right s j =
+    let e = or-no (le-no (nodeCount s) (rootAt s j)) (same (widthAt s (rootAt s j)) 1) in (λ h. e .0 (h .0), λ h. (e .1 h, tt))
+
+-- the three parts of the check
+module _ (s : List ℕ) where
+  abbrev heads : Checked
+  heads = headerFault s
+
+  abbrev nodes : Checked
+  nodes = firstBelow (nodeFault s) (nodeCount s)
+
+  abbrev roots : Checked
+  roots = firstBelow (rootFault s) (rootCount s)
+
+  pub header-accepted : headerFault s ≡ Accepted → HeaderFacts s
+  unfolding headerFault
+  header-accepted h = header-facts s (none-of 0 _ h)
+
+  node-accepted : (i : ℕ) → nodeFault s i ≡ Accepted → NodeFacts (nodeAt s i) i (widthAt s (nodeAt s i .a)) (widthAt s (nodeAt s i .b)) (widthAt s (nodeAt s i .c))
+  unfolding nodeFault faultOf
+  node-accepted i h = node-facts _ i _ _ _ (none-of i _ h)
+
+  root-accepted : (j : ℕ) → rootFault s j ≡ Accepted → (rootAt s j < nodeCount s) × (widthAt s (rootAt s j) ≡ 1)
+  unfolding rootFault
+  root-accepted j h = root-right s j .0 (none-of j _ h)
+
+  -- what an accepted problem has
+  pub accepted-facts : checked s ≡ Accepted → Facts s
+  unfolding checked
+  accepted-facts h =
+      let rest = then-right heads (nodes then roots) h in
+      let ns = first-each (nodeFault s) (nodeCount s) (then-left nodes roots rest) in
+      let rs = first-each (rootFault s) (rootCount s) (then-right nodes roots rest) in
+      record {
+        header = header-accepted (then-left heads (nodes then roots) h);
+        node = λ i l. node-accepted i (ns i l);
+        root-below = λ j l. root-accepted j (rs j l) .0;
+        root-bit = λ j l. root-accepted j (rs j l) .1;
+      }
+
+  -- "None is given otherwise": what has the facts is accepted
+  pub facts-accepted : Facts s → checked s ≡ Accepted
+  unfolding checked headerFault nodeFault faultOf rootFault
+  facts-accepted F =
+      then-accepted _ _ (of-none 0 _ (facts-header s (F .header)))
+      ∙ then-accepted _ _ (first-all (nodeFault s) _ (λ i l. of-none i _ (facts-node _ i _ _ _ (F .node i l))))
+      ∙ first-all (rootFault s) _ (λ j l. of-none j _ (root-right s j .1 (F .root-below j l, F .root-bit j l)))
+
+-- where an accepted problem's parts stand, and the widths of its nodes
+module _ {s : List ℕ} (F : Facts s) where
+  pub node-inside : (i : ℕ) → i < nodeCount s → 9 + 24 * i + 24 ≤ length s
+  node-inside i l = let w = F .header .whole in omega arith
+
+  pub root-inside : (j : ℕ) → j < rootCount s → rootStart s j + 2 ≤ length s
+  root-inside j l = let w = F .header .whole in omega arith

@@ -1,0 +1,172 @@
+-- Laws of runs: that the values stay evaluated and agreeing, that places beyond the nodes are kept, and what the answer says
+-- of the values handed back, of the budget and of the tape.
+use mathlib.Core.Path.{_≡_, refl, ap, _∙_, subst}
+use mathlib.Core.Logic.{_↔_}
+use mathlib.Core.List.{List}
+use Prim.Native.Nat.{ℕ, _+_, _*_, _≤_, _<_}
+use native.Mathlib.Omega.{arith}
+use native.Mathlib.Decide.{ℕ-discrete}
+use lib.ListN.{length, getD, set, length-set}
+use lib.Seq.{getD-set-same, getD-set-other}
+use Rattle.words.specs.laws.Agree.{within-hi, within-le}
+use Rattle.operators.specs.declared.fixed.Pair.{Pair}
+use Rattle.operators.specs.inner.Ready.{Agreeing}
+use Rattle.search.specs.declared.Verdict.{Verdict}
+use Rattle.search.specs.declared.Outcome.{Outcome}
+use Rattle.search.specs.declared.Answer.{Answer}
+use Rattle.evaluation.specs.Problem.{Prob, evaluate}
+use Rattle.search.specs.Run.{AllOne, ClosedRoot, Run, Run.model, Run.spent, Run.ended, Run.moved, Run.held, Whole, Whole.closed, Whole.searched}
+use Rattle.evaluation.specs.Values.{VariablesAgree, NodesAgree}
+use Rattle.evaluation.specs.inner.Good.{Good, Held}
+use Rattle.evaluation.specs.laws.Values.{length-evaluate, evaluate-above, held-evaluate}
+use Rattle.evaluation.specs.laws.Pairs.{pairs-own, every-node}
+use Rattle.search.specs.laws.Moves.{Lands, move-lands, move-spends}
+
+module _ (P : Prob) (g : Good P) where
+  -- values that hold, in as many places, with those beyond the nodes untouched
+  pub record Kept (vs out : List ℕ) : Type 0 where
+    pub values : Held P out
+    pub long : length out ≡ length vs
+    pub beyond : (n : ℕ) → P .nodes ≤ n → getD out n 0 ≡ getD vs n 0
+
+  kept-self : (vs : List ℕ) → Held P vs → Kept vs vs
+  kept-self vs h = record { values = h; long = refl; beyond = λ n l. refl }
+
+  kept-on : {vs us out : List ℕ} → Kept vs us → Kept us out → Kept vs out
+  kept-on a b = record { values = b .values; long = b .long ∙ a .long; beyond = λ n l. b .beyond n l ∙ a .beyond n l }
+
+  pub kept-start : (start : List ℕ) → P .nodes ≤ length start → VariablesAgree P start → Kept start (evaluate P start)
+  kept-start start room a =
+      record {
+        values = held-evaluate P g start room a;
+        long = length-evaluate P start;
+        beyond = λ n l. evaluate-above P start n l;
+      }
+
+  -- "the variable takes the target, all nodes are evaluated"
+  module _ (vs : List ℕ) (h : Held P vs) (n v : ℕ) (to : Lands P n v) where
+    room : P .nodes ≤ length (set vs n v)
+    room = omega (arith, length-set vs n v, h .places)
+
+    pub after-agrees : VariablesAgree P (set vs n v)
+    unfolding VariablesAgree
+    after-agrees m l k =
+        elim (ℕ-discrete m n) [
+          | yes e ↦
+              rw (e, getD-set-same vs n v 0 (omega (arith, to .node, h .places)))
+              (subst (λ (p : Pair). Agreeing p v) (pairs-own P g n (to .node) (omega (arith, to .is-var))) (to .aimed))
+          | no x ↦ rw (getD-set-other vs n m v 0 x) (h .agrees m l k)
+        ]
+
+    pub kept-after : Kept vs (evaluate P (set vs n v))
+    kept-after =
+        let e = kept-start (set vs n v) room after-agrees in
+        record {
+          values = e .values;
+          long = e .long ∙ length-set vs n v;
+          beyond = λ m l. e .beyond m l ∙ getD-set-other vs n m v 0 (λ q. let k = to .node in omega arith);
+        }
+
+  pub run-kept :
+      {B : ℕ} {vs ws : List ℕ} {m s : ℕ} {out : List ℕ} {a : Answer}
+      → (ClosedRoot P → ⊥)
+      → Run P B vs ws m s out a
+      → Held P vs
+      → Kept vs out
+  run-kept {vs = vs} c (model y) h = kept-self vs h
+  run-kept {vs = vs} c (spent x b) h = kept-self vs h
+  run-kept {vs = vs} c (ended x b k) h = kept-self vs h
+  run-kept {vs = vs} c (moved {n = n} {v = v} x b k r) h =
+      let e = kept-after vs h n v (move-lands P g vs c x k) in kept-on e (run-kept c r (e .values))
+  run-kept c (held x b k r) h = run-kept c r h
+
+  pub whole-kept :
+      {B : ℕ} {start ws out : List ℕ} {a : Answer}
+      → Whole P B start ws out a
+      → P .nodes ≤ length start
+      → VariablesAgree P start
+      → Kept start out
+  whole-kept {start = start} (closed c) room va = kept-start start room va
+  whole-kept {start = start} (searched c r) room va = let e = kept-start start room va in kept-on e (run-kept c r (e .values))
+
+-- ---- what the answer says
+
+-- the verdicts by number, to tell model from the others
+abbrev number : Verdict → ℕ
+number Verdict.Model = 0
+number Verdict.Spent = 1
+number Verdict.Ended = 2
+number Verdict.Closed = 3
+
+not-model : (v : Verdict) {A : Type 0} → 0 < number v → (A → ⊥) → (v ≡ Verdict.Model) ↔ A
+not-model v h y = (λ e. absurd (let z : number v ≡ 0 = ap number e in omega arith), λ a. absurd (y a))
+
+-- the verdict is model exactly when every root is 1; m moves and s steps were made before, under the budget B, with so many
+-- words left
+pub record Concluded (P : Prob) (B m s left : ℕ) (out : List ℕ) (a : Answer) : Type 0 where
+  pub verdict : Verdict
+  pub settled : a .outcome ≡ Outcome.Settled verdict
+  pub model : (verdict ≡ Verdict.Model) ↔ AllOne P out
+  pub counts : a .words ≡ a .moves + 2 * a .steps
+  pub budget : m ≤ B → a .moves ≤ B
+  pub tape : a .words ≤ m + 2 * s + left
+
+module _ (P : Prob) (B : ℕ) where
+  concluded-here :
+      (m s left : ℕ) (out : List ℕ) (v : Verdict)
+      → (v ≡ Verdict.Model) ↔ AllOne P out
+      → Concluded P B m s left out (record { moves = m; steps = s; words = m + 2 * s; outcome = Outcome.Settled v })
+  concluded-here m s left out v e =
+      record { verdict = v; settled = refl; model = e; counts = refl; budget = λ h. h; tape = omega arith }
+
+  -- after a move more
+  concluded-on :
+      (m s s′ : ℕ) (ws ws′ : List ℕ) {out : List ℕ} {a : Answer}
+      → m < B
+      → 1 + length ws′ + 2 * s′ ≡ length ws + 2 * s
+      → Concluded P B (m + 1) s′ (length ws′) out a
+      → Concluded P B m s (length ws) out a
+  concluded-on m s s′ ws ws′ b e c =
+      record {
+        verdict = c .verdict;
+        settled = c .settled;
+        model = c .model;
+        counts = c .counts;
+        budget = λ _. c .budget (omega arith);
+        tape = omega (arith, c .tape);
+      }
+
+  pub run-concluded :
+      {vs ws : List ℕ} {m s : ℕ} {out : List ℕ} {a : Answer}
+      → Run P B vs ws m s out a
+      → Concluded P B m s (length ws) out a
+  run-concluded {vs} {ws} {m} {s} (model y) = concluded-here m s (length ws) vs Verdict.Model (λ _. y, λ _. refl)
+  run-concluded {vs} {ws} {m} {s} (spent x b) = concluded-here m s (length ws) vs Verdict.Spent (not-model Verdict.Spent (omega arith) x)
+  run-concluded {vs} {ws} {m} {s} (ended x b k) = concluded-here m s (length ws) vs Verdict.Ended (not-model Verdict.Ended (omega arith) x)
+  run-concluded {vs} {ws} {m} {s} (moved {ws′ = ws′} {s′ = s′} x b k r) =
+      concluded-on m s s′ ws ws′ b (move-spends P vs k) (run-concluded r)
+  run-concluded {vs} {ws} {m} {s} (held {ws′ = ws′} {s′ = s′} x b k r) =
+      concluded-on m s s′ ws ws′ b (move-spends P vs k) (run-concluded r)
+
+-- a root that is fixed at 0 is not 1
+pub closed-none : (P : Prob) → Good P → (vs : List ℕ) → NodesAgree P vs → ClosedRoot P → AllOne P vs → ⊥
+unfolding NodesAgree
+closed-none P g vs h c y =
+    omega (
+      arith,
+      within-le (within-hi (h (P .root (c .at)) (g .root-below (c .at) (c .at-lt)))),
+      y (c .at) (c .at-lt),
+      c .is-zero,
+    )
+
+pub whole-concluded :
+    (P : Prob) (g : Good P) (B : ℕ) {start ws out : List ℕ} {a : Answer}
+    → Whole P B start ws out a
+    → P .nodes ≤ length start
+    → VariablesAgree P start
+    → Concluded P B 0 0 (length ws) out a
+whole-concluded P g B {start} {ws} (closed c) room va =
+    concluded-here P B 0 0 (length ws) (evaluate P start) Verdict.Closed
+    (not-model Verdict.Closed (omega arith)
+    (closed-none P g (evaluate P start) (every-node P g (evaluate P start) (kept-start P g start room va .values)) c))
+whole-concluded P g B (searched c r) room va = run-concluded P B r

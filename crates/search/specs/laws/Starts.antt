@@ -1,0 +1,67 @@
+-- Laws of refusals 14 and 15: what each tests, and that only the variables' places bear on them.
+use mathlib.Core.Path.{_≡_, refl, ap₂}
+use mathlib.Core.Logic.{_↔_}
+use mathlib.Core.Bool.{Bool, false}
+use mathlib.Core.List.{List, [], _∷_}
+use Prim.Native.Nat.{ℕ, zero, suc, _≤_, _<_}
+use native.Mathlib.Omega.{arith}
+use native.Mathlib.Nat.{lt-suc-self}
+use native.Mathlib.Decide.{ℕ-discrete}
+use lib.ListN.{length, getD}
+use borrow.Author.Tests.{ne-eqb}
+use Rattle.words.specs.Agree.{Agrees}
+use Rattle.words.specs.laws.Agree.{agrees-of-within, lo-within, within-hi}
+use Rattle.problem.specs.declared.Checked.{Checked}
+use Rattle.problem.specs.declared.Checked.the-variants.{Accepted}
+use Rattle.problem.specs.Layout.{nodeCount, nodeAt}
+use Rattle.problem.specs.Refusals.{firstOf, _then_, firstBelow, bitOutside}
+use Rattle.problem.specs.laws.Tests.{lt-no, eq-yes, or-no, and-no}
+use Rattle.problem.specs.laws.First.{none-of, of-none}
+use Rattle.problem.specs.laws.Facts.{within-right}
+use Rattle.evaluation.specs.Problem.{problem, Variable}
+use Rattle.search.specs.Call.{placesFault, disagrees, startFault, refusals}
+
+agree-right : (lo hi v : ℕ) → (disagrees lo hi v ≡ false) ↔ Agrees lo hi v
+unfolding disagrees bitOutside
+agree-right lo hi v =
+    let e = or-no (within-right lo v) (within-right v hi) in
+    (λ h. agrees-of-within (e .0 h .0) (e .0 h .1), λ a. e .1 (lo-within a, within-hi a))
+
+one-line : (p k : ℕ) (t : Bool) → (firstOf p ((k, t) ∷ []) ≡ Accepted) ↔ (t ≡ false)
+one-line p k t = (λ h. none-of p ((k, t) ∷ []) h .0, λ e. of-none p ((k, t) ∷ []) (e, tt))
+
+module _ (s start : List ℕ) where
+  pub places-right : (placesFault s start ≡ Accepted) ↔ (nodeCount s ≤ length start)
+  unfolding placesFault
+  places-right =
+      let l = one-line 0 14 _ in
+      let e = lt-no (length start) (nodeCount s) in (λ h. e .0 (l .0 h), λ h. l .1 (e .1 h))
+
+  pub start-right :
+      (i : ℕ)
+      → (startFault s start i ≡ Accepted)
+      ↔ (nodeAt s i .kind ≡ 0 → Agrees (nodeAt s i .lo) (nodeAt s i .hi) (getD start i 0))
+  unfolding startFault
+  start-right i =
+      let l = one-line i 15 _ in
+      let e = and-no (eq-yes (nodeAt s i .kind) 0) (agree-right (nodeAt s i .lo) (nodeAt s i .hi) (getD start i 0)) in
+      (λ h. e .0 (l .0 h), λ h. l .1 (e .1 h))
+
+-- two starts with the same variables
+first-same : (f g : ℕ → Checked) (n : ℕ) → ((i : ℕ) → i < n → f i ≡ g i) → firstBelow f n ≡ firstBelow g n
+unfolding firstBelow
+first-same f g zero h = refl
+first-same f g (suc n) h = ap₂ _then_ (first-same f g n (λ i l. h i (omega arith))) (h n (lt-suc-self n))
+
+pub refusals-same :
+    (s start other : List ℕ)
+    → length start ≡ length other
+    → ((n : ℕ) → n < nodeCount s → Variable (problem s) n → getD start n 0 ≡ getD other n 0)
+    → refusals s start ≡ refusals s other
+unfolding refusals placesFault startFault problem
+refusals-same s start other e h =
+    rw (
+      e,
+      first-same (startFault s start) (startFault s other) (nodeCount s)
+          (λ i l. elim (ℕ-discrete (nodeAt s i .kind) 0) [ yes v ↦ rw (h i l v) | no x ↦ rw (ne-eqb (nodeAt s i .kind) 0 x) ]),
+    )
