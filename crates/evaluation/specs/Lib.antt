@@ -4,4 +4,5 @@ pub mod Values
 pub mod Lists
 pub mod Height
 pub mod inner
+pub mod promises
 pub mod laws

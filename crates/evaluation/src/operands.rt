@@ -76,7 +76,7 @@ pub(crate) fn held(list: &[u64], n: Node, count: u8) -> Three
 }
 
 // The id at a position.
-pub(crate) fn operand(n: Node, i: u32) -> u16
+pub fn operand(n: Node, i: u32) -> u16
     ensures { λ r. ⌜ r ≡ at (ids n) i ⌝ }
 {
     if i == 0 {

@@ -1,8 +1,6 @@
-// Fixed bits: the pair of every node, filled in upward, node by node; and whether a root is fixed at 0.
+// Fixed bits: the pair of every node, filled in upward, node by node.
 ghost use mathlib.Core.Path.{_≡_};
-ghost use Rattle.words.specs.inner.Decides.{Decides};
 ghost use Rattle.evaluation.specs.Problem.{problem, pairAt};
-ghost use Rattle.search.specs.Run.{ClosedRoot};
 ghost use Rattle.evaluation.specs.inner.Evaluation.{Narrowed, derives, Fillable, pairsOf, Unfilled, Filled};
 use crate::operands::held;
 use crate::operands::operator;
@@ -12,8 +10,6 @@ use operators::pair_of;
 use problem::Node;
 use problem::node_at;
 use problem::node_count;
-use problem::root_at;
-use problem::root_count;
 
 // The pair of a node of kinds 2 to 13, from its operands' pairs.
 fn inner_pair(bytes: &[u8], los: &[u64; 1024], his: &[u64; 1024], n: Node) -> Pair
@@ -42,7 +38,7 @@ fn pair_at(bytes: &[u8], los: &[u64; 1024], his: &[u64; 1024], i: u16) -> Pair
 }
 
 // The pairs of all nodes, in ascending id.
-pub(crate) fn fill(bytes: &[u8], los: &mut [u64; 1024], his: &mut [u64; 1024])
+pub fn fill(bytes: &[u8], los: &mut [u64; 1024], his: &mut [u64; 1024])
     requires { ⌜ Unfilled (now bytes) (now los) (now his) ⌝ }
     ensures { λ r. ⌜ Filled (now (bytes .entry)) (now (los .exit)) (now (his .exit)) ⌝ }
 {
@@ -54,20 +50,4 @@ pub(crate) fn fill(bytes: &[u8], los: &mut [u64; 1024], his: &mut [u64; 1024])
         his[i as usize] = p.hi;
         i += 1;
     }
-}
-
-// Whether a root is fixed at 0.
-pub(crate) fn closed_root(bytes: &[u8], los: &[u64; 1024], his: &[u64; 1024]) -> bool
-    requires { ⌜ Filled (now bytes) (now los) (now his) ⌝ }
-    ensures { λ r. ⌜ Decides (ClosedRoot (problem (now (bytes .entry)))) r ⌝ }
-{
-    let n = root_count(bytes);
-    let mut j: u16 = 0;
-    while j < n {
-        if his[root_at(bytes, j) as usize] == 0 {
-            return true;
-        }
-        j += 1;
-    }
-    false
 }

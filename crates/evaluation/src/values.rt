@@ -40,7 +40,7 @@ fn value_at(bytes: &[u8], values: &[u64], i: u16) -> u64
 }
 
 // All nodes evaluated.
-pub(crate) fn evaluate(bytes: &[u8], values: &mut [u64])
+pub fn evaluate(bytes: &[u8], values: &mut [u64])
     requires { ⌜ Assigned (now bytes) (now values) ⌝ }
     ensures { λ r. ⌜ now (values .exit) ≡ evaluated (problem (now (bytes .entry))) (now (values .entry)) ⌝ }
 {

@@ -1,5 +1,5 @@
 -- Laws for the proofs of this crate's functions.
-pub mod Nodes
+pub mod RootPlaces
 pub mod Steps
 pub mod Places
 pub mod Runs

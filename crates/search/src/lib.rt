@@ -1,4 +1,4 @@
-// The run of document 01, an entry point: evaluation, fixed bits of all nodes, steps, moves, and whole runs.
+// The run of document 01, an entry point: steps, moves, and whole runs.
 ghost use mathlib.Core.Path.{_≡_};
 ghost use Prim.Native.Nat.{_+_, _*_};
 ghost use Rattle.evaluation.specs.Problem.{problem as problemIn};
@@ -6,22 +6,19 @@ ghost use Rattle.search.specs.Run.{Run, answer};
 ghost use Rattle.search.specs.Call.{Called};
 ghost use Rattle.search.specs.inner.Run.{Searching};
 
-mod evaluate;
 mod moves;
-mod operands;
-mod pairs;
-mod spot;
+mod roots;
 mod starts;
 mod step;
 
-use evaluate::evaluate;
+use evaluation::evaluate;
+use evaluation::fill;
 use moves::Stop;
-use moves::count_unsatisfied;
 use moves::make_move;
-use pairs::closed_root;
-use pairs::fill;
 use problem::Checked;
 use problem::Refusal;
+use roots::closed_root;
+use roots::count_unsatisfied;
 use starts::refusal_of;
 
 // How a run that is not refused ends.

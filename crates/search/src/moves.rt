@@ -3,13 +3,13 @@ ghost use Prim.Native.Nat.{_+_, _<_, _≤_};
 ghost use lib.ListN.{drop, length};
 ghost use Rattle.evaluation.specs.Problem.{problem};
 ghost use Rattle.search.specs.Run.{Walk, Move, Unsatisfied};
-ghost use Rattle.search.specs.inner.Run.{Searching, Walking, Moving, endOf, Placed, Count, Nth};
-use crate::operands::operand;
-use crate::spot::spot_of;
+ghost use Rattle.search.specs.inner.Run.{Searching, Walking, endOf, Placed, Count};
+use crate::roots::nth_unsatisfied;
 use crate::step::step;
+use evaluation::operand;
+use evaluation::spot_of;
 use problem::node_at;
 use problem::root_at;
-use problem::root_count;
 use words::Found;
 
 // How a move ends: a variable, the value that it takes, the steps made so far in the run, the next place on the tape; or
@@ -58,43 +58,6 @@ fn walk(
         n = operand(node, way.position);
         t = v;
     }
-}
-
-// How many root entries are not satisfied.
-pub(crate) fn count_unsatisfied(bytes: &[u8], values: &[u64]) -> u64
-    requires { ⌜ Moving (now bytes) (now values) ⌝ }
-    ensures { λ r. ⌜ Count (Unsatisfied (problem (now (bytes .entry))) (now (values .entry))) (problem (now (bytes .entry)) .entries) r ⌝ }
-{
-    let n = root_count(bytes);
-    let mut count: u64 = 0;
-    let mut j: u16 = 0;
-    while j < n {
-        if values[root_at(bytes, j) as usize] != 1 {
-            count += 1;
-        }
-        j += 1;
-    }
-    count
-}
-
-// The root entry that is not satisfied and has k such before it.
-fn nth_unsatisfied(bytes: &[u8], values: &[u64], count: u64, k: u64) -> u16
-    requires { ⌜ Moving (now bytes) (now values) × Count (Unsatisfied (problem (now bytes)) (now values)) (problem (now bytes) .entries) count × (k < count) ⌝ }
-    ensures { λ r. ⌜ Nth (Unsatisfied (problem (now (bytes .entry))) (now (values .entry))) (problem (now (bytes .entry)) .entries) k r ⌝ }
-{
-    let n = root_count(bytes);
-    let mut before: u64 = 0;
-    let mut j: u16 = 0;
-    while j < n {
-        if values[root_at(bytes, j) as usize] != 1 {
-            if before == k {
-                return j;
-            }
-            before += 1;
-        }
-        j += 1;
-    }
-    0
 }
 
 // "A move reads one word, modulo the number of unsatisfied root entries, to take one of them in file order; its target is 1."

@@ -7,8 +7,8 @@ use Rattle.evaluation.specs.Problem.{problem, pairHi}
 use Rattle.evaluation.specs.laws.Readings.{root-inside, root-hi}
 use Rattle.evaluation.specs.laws.Good.{good-of}
 use borrow.Author.Needs.{needs}
-use Rattle.evaluation.proofs.pairs.closed_root.Statement.{statement}
-use Rattle.evaluation.proofs.pairs.closed_root.Tie as tie
+use Rattle.search.proofs.roots.closed_root.Statement.{statement}
+use Rattle.search.proofs.roots.closed_root.Tie as tie
 
 abbrev Inv-loop : tie.InvT-loop
 Inv-loop bytes los his n j₀ j = (n ≡ problem bytes .entries) × (j ≤ n) × ((m : ℕ) → m < j → pairHi (problem bytes) (problem bytes .root m) ≡ 0 → ⊥)
