@@ -4,7 +4,7 @@ use mathlib.Core.Bool.{Bool, true, _&&_}
 use mathlib.Core.List.{List, [], _∷_}
 use Prim.Native.Nat.{ℕ, _+_, _≤_}
 use lib.Dec.{eqb, leb}
-use lib.ListN.{getD}
+use lib.ListN.{length, getD}
 use Rattle.operators.specs.declared.table.Rule.{Rule}
 use Rattle.operators.specs.declared.table.Rule.the-variants.{Free, One, Both, Equal, Choice, Sum, Part}
 use Rattle.operators.specs.declared.table.Shape.{Shape}
@@ -29,7 +29,11 @@ pub data Kind : Type 0 where
 abbrev pub kinds : List Kind
 kinds = variable ∷ constant ∷ inv ∷ conj ∷ xor ∷ add ∷ mul ∷ shl ∷ lshr ∷ eq ∷ below ∷ ite ∷ concat ∷ extract ∷ []
 
--- the kind with a number; 14 and above are refused by the problem check, and read as a variable here
+-- how many kinds there are
+abbrev pub kindCount : ℕ
+kindCount = length kinds
+
+-- the kind with a number; one that no kind has is refused by the problem check (7), and reads as a variable here
 abbrev pub kindOf : ℕ → Kind
 kindOf n = getD kinds n variable
 

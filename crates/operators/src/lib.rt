@@ -10,6 +10,7 @@ pub use meaning::Op;
 pub use meaning::flip;
 pub use meaning::part;
 pub use meaning::value;
+pub use table::KINDS;
 pub use table::Rule;
 pub use table::Shape;
 pub use table::operand_count;

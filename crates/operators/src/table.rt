@@ -27,7 +27,10 @@ pub struct Shape {
     pub rule: Rule,
 }
 
-const SHAPES: [Shape; 14] = [
+// How many kinds there are: who asks whether a number is a kind's reads this.
+pub const KINDS: u8 = 14;
+
+const SHAPES: [Shape; KINDS as usize] = [
     // 0 variable, 1 constant
     Shape {
         operands: 0,
@@ -109,13 +112,12 @@ const SHAPES: [Shape; 14] = [
     },
 ];
 
-// The row of a kind; a number over 13 has the row of a variable.
+// The row of a kind; a number that is no kind's has the row of a variable.
 pub fn shape_of(kind: u8) -> Shape
     ensures { λ r. ⌜ r ≡ shapeOf kind ⌝ }
 {
-    let k = kind as usize;
-    if k < 14 {
-        return SHAPES[k];
+    if kind < KINDS {
+        return SHAPES[kind as usize];
     }
     Shape {
         operands: 0,

@@ -4,7 +4,7 @@ use mathlib.Core.Path.{_≡_}
 use mathlib.Core.Logic.{_⊎_}
 use Prim.Native.Nat.{ℕ, zero, suc, _^_, _≤_, _<_}
 use Rattle.words.specs.Agree.{Agrees, Within}
-use Rattle.operators.specs.Table.{kindOf, shapeOf, RuleMet}
+use Rattle.operators.specs.Table.{kindOf, kindCount, shapeOf, RuleMet}
 use Rattle.operators.specs.Meaning.{meaning}
 use Rattle.picking.specs.declared.spot.Three.{Three}
 use Rattle.picking.specs.declared.spot.Spot.{Spot}
@@ -78,7 +78,7 @@ pub record Slot (w lo hi v : ℕ) : Type 0 where
 
 pub record Fair (S : Spot) : Type 0 where
   pub kind-from : 2 ≤ S .kind
-  pub kind-below : S .kind < 14
+  pub kind-below : S .kind < kindCount
   pub some : 1 ≤ S .width
   pub wide : S .width ≤ 64
   pub rule : RuleMet (shapeOf (S .kind) .rule) (S .width) (S .widths .a) (S .widths .b) (S .widths .c) (S .low)

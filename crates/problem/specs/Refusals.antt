@@ -5,7 +5,7 @@ use mathlib.Core.Bool.{Bool, cond, not, _&&_, _||_}
 use lib.ListN.{length, getD}
 use lib.Dec.{ltb, leb, eqb}
 use lib.Bits.{bitAnd}
-use Rattle.operators.specs.Table.{shapeOf, ruleHolds}
+use Rattle.operators.specs.Table.{kindCount, shapeOf, ruleHolds}
 use Rattle.problem.specs.declared.Checked.{Checked}
 use Rattle.problem.specs.declared.Checked.the-variants.{Accepted, Refused}
 use Rattle.problem.specs.declared.layout.Node.{Node}
@@ -88,7 +88,7 @@ headerFault s = firstOf 0 (headerLines s)
 -- 7 to 12, of a node, its id i and the widths of the nodes that its fields a, b, c name
 unfoldable pub nodeLines : Node → ℕ → ℕ → ℕ → ℕ → List Line
 nodeLines n i wa wb wc =
-    (7, ltb 13 (n .kind))
+    (7, leb kindCount (n .kind))
     ∷ (8, eqb (n .width) 0 || ltb 64 (n .width))
     ∷ (9, operandAbove n (shapeOf (n .kind) .operands) i)
     ∷ (10, strayField n (shapeOf (n .kind) .fields))

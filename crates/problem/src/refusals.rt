@@ -16,6 +16,7 @@ use crate::layout::root_at;
 use crate::layout::root_count;
 use crate::layout::version_of;
 use crate::layout::width_at;
+use operators::KINDS;
 use operators::rule_holds;
 use operators::shape_of;
 
@@ -96,7 +97,7 @@ fn fault_of(n: Node, id: u16, wa: u8, wb: u8, wc: u8) -> Checked
 {
     let shape = shape_of(n.kind);
     let rule = shape.rule;
-    let found = line(Checked::Accepted, 7, 13 < n.kind, id);
+    let found = line(Checked::Accepted, 7, KINDS <= n.kind, id);
     let found = line(found, 8, (n.width == 0) | (64 < n.width), id);
     let found = line(found, 9, operand_above(n, shape.operands, id), id);
     let found = line(found, 10, stray_field(n, shape.fields), id);

@@ -10,7 +10,7 @@ use Rattle.words.specs.Agree.{Agrees}
 use Rattle.words.specs.laws.Agree.{within-trans, lo-within, within-hi}
 use Rattle.words.specs.inner.Decides.{Decides}
 use Rattle.operators.specs.declared.table.Shape.{Shape}
-use Rattle.operators.specs.Table.{shapeOf, RuleMet, ruleHolds}
+use Rattle.operators.specs.Table.{kindCount, shapeOf, RuleMet, ruleHolds}
 use Rattle.operators.specs.laws.Table.{rule-met, rule-tested}
 use Rattle.picking.specs.declared.spot.Spot.{Spot}
 use Rattle.picking.specs.Spot.{at, positions, Slot}
@@ -53,7 +53,7 @@ module _ (S : Spot) where
 
   abbrev HeadTests : Bool
   HeadTests =
-      leb 2 (S .kind) && leb (S .kind) 13 && leb 1 (S .width) && leb (S .width) 64 && leb (S .widths .a) 64 && leb (S .widths .b) 64
+      leb 2 (S .kind) && ltb (S .kind) kindCount && leb 1 (S .width) && leb (S .width) 64 && leb (S .widths .a) 64 && leb (S .widths .b) 64
       && leb (S .widths .c) 64 && leb (S .low) 65535
 
   pub headed-law : Decides (Headed S) HeadTests
@@ -61,7 +61,7 @@ module _ (S : Spot) where
       as-fact (Headed S)
       (λ f. record {
         kind-from = f .0 .0 .0 .0 .0 .0 .0;
-        kind-below = omega (arith, f .0 .0 .0 .0 .0 .0 .1);
+        kind-below = f .0 .0 .0 .0 .0 .0 .1;
         some = f .0 .0 .0 .0 .0 .1;
         wide = f .0 .0 .0 .0 .1;
         narrow-a = f .0 .0 .0 .1;
@@ -69,8 +69,8 @@ module _ (S : Spot) where
         narrow-c = f .0 .1;
         low-field = omega (arith, f .1);
       })
-      (λ h. (((((((h .kind-from, omega (arith, h .kind-below)), h .some), h .wide), h .narrow-a), h .narrow-b), h .narrow-c), omega (arith, h .low-field)))
-      (both (both (both (both (both (both (both (at-most 2 (S .kind)) (at-most (S .kind) 13)) (at-most 1 (S .width))) (at-most (S .width) 64)) (at-most (S .widths .a) 64)) (at-most (S .widths .b) 64)) (at-most (S .widths .c) 64)) (at-most (S .low) 65535))
+      (λ h. (((((((h .kind-from, h .kind-below), h .some), h .wide), h .narrow-a), h .narrow-b), h .narrow-c), omega (arith, h .low-field)))
+      (both (both (both (both (both (both (both (at-most 2 (S .kind)) (less (S .kind) kindCount)) (at-most 1 (S .width))) (at-most (S .width) 64)) (at-most (S .widths .a) 64)) (at-most (S .widths .b) 64)) (at-most (S .widths .c) 64)) (at-most (S .low) 65535))
 
   rule-law : Decides (RuleMet (shapeOf (S .kind) .rule) (S .width) (S .widths .a) (S .widths .b) (S .widths .c) (S .low)) (ruleHolds (shapeOf (S .kind) .rule) (S .width) (S .widths .a) (S .widths .b) (S .widths .c) (S .low))
   rule-law =

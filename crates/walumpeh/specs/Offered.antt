@@ -1,5 +1,6 @@
 -- What the C interface takes as a node of an accepted problem.
 use Prim.Native.Nat.{ℕ, _^_, _≤_, _<_}
+use Rattle.operators.specs.Table.{kindCount}
 use Rattle.picking.specs.declared.spot.Spot.{Spot}
 use Rattle.picking.specs.Spot.{at, Slot, Asked}
 
@@ -16,7 +17,7 @@ Slots S n = (j : ℕ) → j < n → Slot (at (S .widths) j) (at (S .los) j) (at 
 -- the numbers that stand outside the positions
 pub record Headed (S : Spot) : Type 0 where
   pub kind-from : 2 ≤ S .kind
-  pub kind-below : S .kind < 14
+  pub kind-below : S .kind < kindCount
   pub some : 1 ≤ S .width
   pub wide : S .width ≤ 64
   pub narrow-a : S .widths .a ≤ 64

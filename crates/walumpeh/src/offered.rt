@@ -5,6 +5,7 @@ ghost use Prim.Native.Nat.{_≤_};
 ghost use Rattle.operators.specs.Table.{ruleHolds};
 ghost use Rattle.picking.specs.Spot.{Slot};
 ghost use Rattle.walumpeh.specs.Offered.{Short, Slots, Headed, Offered};
+use operators::KINDS;
 use operators::Rule;
 use picking::Spot;
 
@@ -51,7 +52,7 @@ fn headed(s: Spot) -> bool
 {
     let w = s.widths;
     (2 <= s.kind)
-        & (s.kind <= 13)
+        & (s.kind < KINDS)
         & (1 <= s.width)
         & (s.width <= 64)
         & (w.a <= 64)

@@ -4,7 +4,7 @@ use mathlib.Core.List.{List}
 use Prim.Native.Nat.{ℕ, _^_, _≤_, _<_}
 use lib.ListN.{length}
 use Rattle.words.specs.Agree.{Within}
-use Rattle.operators.specs.Table.{shapeOf, RuleMet}
+use Rattle.operators.specs.Table.{kindCount, shapeOf, RuleMet}
 use Rattle.picking.specs.declared.spot.Three.{Three}
 use Rattle.evaluation.specs.Problem.{Prob, three, count, arg}
 use Rattle.evaluation.specs.Values.{Evaluated, VariablesAgree}
@@ -14,7 +14,7 @@ abbrev pub widthsOf : Prob → ℕ → Three
 widthsOf P n = three (count P n) (λ i. P .width (arg P n i))
 
 pub record GoodNode (P : Prob) (n : ℕ) : Type 0 where
-  pub known : P .kind n < 14
+  pub known : P .kind n < kindCount
   pub some : 1 ≤ P .width n
   pub wide : P .width n ≤ 64
   pub below : (i : ℕ) → i < count P n → arg P n i < n

@@ -54,7 +54,7 @@ module _ (s : List ℕ) (F : Facts s) (n : ℕ) (l : n < nodeCount s) where
   unfolding problem
   good-node =
       record {
-        known = omega (arith, here .kind-known);
+        known = here .kind-known;
         some = here .width-some;
         wide = here .width-most;
         below = below;

@@ -5,7 +5,7 @@ use lib.ListN.{length, getD}
 use Rattle.words.specs.Agree.{Within, Agrees}
 use Rattle.operators.specs.declared.fixed.Pair.{Pair}
 use Rattle.operators.specs.declared.meaning.Op.{Op}
-use Rattle.operators.specs.Table.{shapeOf}
+use Rattle.operators.specs.Table.{kindCount, shapeOf}
 use Rattle.operators.specs.Meaning.{Fit}
 
 -- of three facts, of the operands a, b and c, those that there are for n operands
@@ -27,10 +27,10 @@ pub record Ternary (w : ℕ) (p : Pair) : Type 0 where
 abbrev pub Agreeing : Pair → ℕ → Type 0
 Agreeing p v = Agrees (p .lo) (p .hi) v
 
--- an operator of kinds 2 to 13, a width of 1 to 64, and operands' values of the widths that the width rule gives them
+-- an operator of the kinds from 2 on, a width of 1 to 64, and operands' values of the widths that the width rule gives them
 pub record Ready (op : Op) (x y z : ℕ) : Type 0 where
   pub operator : 2 ≤ op .kind
-  pub known : op .kind < 14
+  pub known : op .kind < kindCount
   pub some : 1 ≤ op .width
   pub wide : op .width ≤ 64
   pub fit : Fit (shapeOf (op .kind) .rule) (op .width) (op .wa) (op .wb) (op .low) x y z

@@ -11,7 +11,7 @@ use Rattle.words.specs.laws.Cases.{every, every-at}
 use Rattle.operators.specs.declared.table.Rule.{Rule}
 use Rattle.operators.specs.declared.table.Rule.the-variants.{Free, One, Both, Equal, Choice, Sum, Part}
 use Rattle.operators.specs.declared.table.Shape.{Shape}
-use Rattle.operators.specs.Table.{Kind, variable, kinds, shape, shapeOf, RuleMet, ruleHolds}
+use Rattle.operators.specs.Table.{Kind, variable, kinds, kindCount, shape, shapeOf, RuleMet, ruleHolds}
 
 -- the rows of some kinds
 abbrev pub rows : List Kind → List Shape
@@ -23,10 +23,10 @@ row-of d [] k h = absurd (not-suc-le-zero h)
 row-of d (o ∷ os) zero h = refl
 row-of d (o ∷ os) (suc k) h = row-of d os k (le-of-suc-le-suc h)
 
-pub row-is : (d : Shape) (k : ℕ) → k < 14 → getD (rows kinds) k d ≡ shapeOf k
+pub row-is : (d : Shape) (k : ℕ) → k < kindCount → getD (rows kinds) k d ≡ shapeOf k
 row-is d k h = row-of d kinds k h
 
-pub row-none : (k : ℕ) → 14 ≤ k → shape variable ≡ shapeOf k
+pub row-none : (k : ℕ) → kindCount ≤ k → shape variable ≡ shapeOf k
 row-none k h = ap shape (sym (List·getD-eq-default kinds variable h))
 
 pub or-right : (a b : Bool) → T (a || b) → (T a → ⊥) → T b

@@ -4,7 +4,7 @@ use mathlib.Core.Path.{_≡_}
 use mathlib.Core.List.{List}
 use lib.ListN.{length, getD}
 use Rattle.words.specs.Agree.{Within}
-use Rattle.operators.specs.Table.{shapeOf, RuleMet}
+use Rattle.operators.specs.Table.{kindCount, shapeOf, RuleMet}
 use Rattle.problem.specs.declared.layout.Node.{Node}
 use Rattle.problem.specs.Layout.{version, nodeCount, rootCount, nodeAt, widthAt, rootAt, totalLength}
 
@@ -21,7 +21,7 @@ pub record HeaderFacts (s : List ℕ) : Type 0 where
 
 -- 7 to 12, of a node n with id i and the widths of the nodes that its fields a, b, c name
 pub record NodeFacts (n : Node) (i wa wb wc : ℕ) : Type 0 where
-  pub kind-known : n .kind ≤ 13
+  pub kind-known : n .kind < kindCount
   pub width-some : 0 < n .width
   pub width-most : n .width ≤ 64
   pub a-below : 0 < shapeOf (n .kind) .operands → n .a < i

@@ -109,7 +109,7 @@ module _ (n : Node) (i wa wb wc : ℕ) where
       let u = fields-right n (shapeOf (n .kind) .fields) .0 (f .1 .1 .1 .0) in
       let p = pair-right n .0 (f .1 .1 .1 .1 .1 .0) in
       record {
-        kind-known = lt-no _ _ .0 (f .0);
+        kind-known = le-no _ _ .0 (f .0);
         width-some = let z : (n .width ≡ 0 → ⊥) = w .0 in omega arith;
         width-most = w .1;
         a-below = o .0 .0;
@@ -129,7 +129,7 @@ module _ (n : Node) (i wa wb wc : ℕ) where
   facts-node : NodeFacts n i wa wb wc → NoneOf (nodeLines n i wa wb wc)
   unfolding nodeLines
   facts-node h =
-      six (lt-no _ _ .1 (h .kind-known)) (width-right (n .width) .1 (λ e. let l = h .width-some in omega arith, h .width-most))
+      six (le-no _ _ .1 (h .kind-known)) (width-right (n .width) .1 (λ e. let l = h .width-some in omega arith, h .width-most))
       (operands-right n _ i .1 ((h .a-below, h .b-below), h .c-below))
       (fields-right n _ .1 (((h .a-unused, h .b-unused), h .c-unused), λ k. (h .lo-unused k, h .hi-unused k)))
       (rule-right n wa wb wc .1 (h .rule)) (pair-right n .1 (λ k. ((h .lo-inside k, h .hi-fits k), h .constant-fixed)))

@@ -1,4 +1,4 @@
--- The constant table is the definition's, row by row; a number over 13 reads as a variable.
+-- The constant table is the definition's, row by row; a number that is no kind's reads as a variable.
 use borrow.Author.Needs.{needs}
 use Rattle.operators.specs.laws.Table.{row-is, row-none}
 use Rattle.operators.proofs.table.shape_of.Statement.{statement}
