@@ -1,22 +1,20 @@
 -- H, the longest chain of operand links under a root.
-use Prim.Native.Nat.{ℕ, zero, suc, max}
-use Rattle.picking.specs.declared.spot.Three.{Three}
-use Rattle.evaluation.specs.Problem.{three, Prob, count, arg}
-
-abbrev pub top : Three → ℕ
-top x = max (x .a) (max (x .b) (x .c))
+use Prim.Native.Nat.{ℕ, suc, _≤_, _<_}
+use Rattle.evaluation.specs.Problem.{Prob, count, arg}
 
 module _ (P : Prob) where
-  -- the longest chain of operand links from node n down, at most f links deep
-  unfoldable pub chain : ℕ → ℕ → ℕ
-  chain zero n = 0
-  chain (suc f) n = top (three (count P n) (λ i. suc (chain f (arg P n i))))
+  -- a chain of k operand links from node n down
+  pub data Chain : ℕ → ℕ → Type 0 where
+    ends : {n : ℕ} → Chain n 0
+    link : {n i k : ℕ} → i < count P n → Chain (arg P n i) k → Chain n (suc k)
 
-  -- the longest under the first j root entries
-  unfoldable pub chainUnder : ℕ → ℕ
-  chainUnder zero = 0
-  chainUnder (suc j) = max (chainUnder j) (chain (P .nodes) (P .root j))
+  -- one under a root
+  pub record Under (k : ℕ) : Type 0 where
+    pub entry : ℕ
+    pub entry-lt : entry < P .entries
+    pub chain : Chain (P .root entry) k
 
   -- "H is the longest chain of operand links under any root, 0 if there are none."
-  unfoldable pub longest : ℕ
-  longest = chainUnder (P .entries)
+  pub record Longest (h : ℕ) : Type 0 where
+    pub reached : 0 < h → Under h
+    pub none-longer : (k : ℕ) → Under k → k ≤ h

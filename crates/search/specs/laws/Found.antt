@@ -15,7 +15,7 @@ use Rattle.evaluation.specs.Problem.{Prob, Variable, evaluate}
 use Rattle.search.specs.Run.{End, sets, Walk, Move, Move.from-root, Unsatisfied, AllOne, answer, Run, Run.model, Run.moved, Whole, Whole.searched}
 use Rattle.evaluation.specs.Values.{VariablesAgree, NodesAgree}
 use Rattle.search.specs.Reach.{Solution, apart}
-use Rattle.evaluation.specs.Height.{longest}
+use Rattle.evaluation.specs.Height.{Longest}
 use Rattle.evaluation.specs.inner.Good.{Good, Held}
 use Rattle.evaluation.specs.laws.Decide.{dec-not, Some, all-or-some, Listed, listed, Stands, lists-find, Member, lists-member}
 use Rattle.evaluation.specs.laws.Values.{evaluate-variable, evaluated-same}
@@ -23,7 +23,6 @@ use Rattle.evaluation.specs.laws.Pairs.{all-agree, every-node}
 use Rattle.search.specs.laws.Moves.{Lands}
 use Rattle.search.specs.laws.Runs.{kept-start, kept-after, closed-none}
 use Rattle.search.specs.laws.Apart.{apart-none, apart-le, apart-lt}
-use Rattle.evaluation.specs.laws.Height.{chain-longest}
 use Rattle.search.specs.laws.Lead.{Small, small-cons, lead}
 
 small-append : (xs ys : List ℕ) → Small xs → Small ys → Small (xs ++ ys)
@@ -63,14 +62,14 @@ leads-on f l =
       ends = λ rest. f _ _ _ (l .ends rest);
     }
 
-module _ (P : Prob) (g : Good P) (us : List ℕ) (sol : Solution P us) where
+module _ (P : Prob) (g : Good P) (H : ℕ) (top : Longest P H) (us : List ℕ) (sol : Solution P us) where
   solved : NodesAgree P us
   solved = all-agree P g us (sol .evaluated) (sol .agrees)
 
   -- the words of one move, which sets a variable that differs to the solution's value
   record LedMove (vs : List ℕ) (s : ℕ) : Type 0 where
     words : List ℕ
-    few : length words ≤ 1 + 2 * longest P
+    few : length words ≤ 1 + 2 * H
     small : Small words
     var : ℕ
     lands : Lands P var (getD us var 0)
@@ -91,7 +90,7 @@ module _ (P : Prob) (g : Good P) (us : List ℕ) (sol : Solution P us) where
       let l = lead P g vs us (h .evaluated) (sol .evaluated) (every-node P g vs h) solved (P .nodes) n s b b (λ e. mb .holds (e ∙ one)) in
       record {
         words = 0 ∷ l .words;
-        few = omega (arith, l .few, chain-longest P (getD (ls .list) 0 0) (mb .below));
+        few = omega (arith, l .few, top .none-longer (l .links) (record { entry = getD (ls .list) 0 0; entry-lt = mb .below; chain = l .chain }));
         small = small-cons 0 (l .words) (omega arith) (l .small);
         var = l .var;
         lands = record { node = l .var-lt; is-var = l .is-var; aimed = solved (l .var) (l .var-lt) };
@@ -135,7 +134,7 @@ module _ (P : Prob) (g : Good P) (us : List ℕ) (sol : Solution P us) where
   module _ (B : ℕ) where
     -- the words that lead from vs, after m moves and s steps, to a model within d moves more
     abbrev Reached : List ℕ → ℕ → ℕ → ℕ → Type 0
-    Reached vs m s d = Leads (λ ws out a. Run P B vs ws m s out a) (d * (1 + 2 * longest P)) (m + d)
+    Reached vs m s d = Leads (λ ws out a. Run P B vs ws m s out a) (d * (1 + 2 * H)) (m + d)
 
     reached-here : (vs : List ℕ) (m s d : ℕ) → AllOne P vs → Reached vs m s d
     reached-here vs m s d y =
@@ -160,7 +159,7 @@ module _ (P : Prob) (g : Good P) (us : List ℕ) (sol : Solution P us) where
     reached-onward vs m s d x b mv r =
         record {
           words = mv .words ++ r .words;
-          few = omega (arith, length-append (mv .words) (r .words), mv .few, r .few, suc-mul d (1 + 2 * longest P));
+          few = omega (arith, length-append (mv .words) (r .words), mv .few, r .few, suc-mul d (1 + 2 * H));
           small = small-append (mv .words) (r .words) (mv .small) (r .small);
           out = r .out;
           moves = r .moves;
@@ -190,7 +189,7 @@ module _ (P : Prob) (g : Good P) (us : List ℕ) (sol : Solution P us) where
         → VariablesAgree P start
         → apart P start us (P .nodes) ≤ d
         → d ≤ B
-        → Leads (λ ws out a. Whole P B start ws out a) (d * (1 + 2 * longest P)) d
+        → Leads (λ ws out a. Whole P B start ws out a) (d * (1 + 2 * H)) d
     found start d room va a b =
         let le : apart P (evaluate P start) us (P .nodes) ≤ apart P start us (P .nodes) =
         apart-le P start (evaluate P start) us (P .nodes) (λ m k v. inl (evaluate-variable P start m (omega arith) v)) in

@@ -18,8 +18,8 @@ use Rattle.picking.specs.Spot.{at, put, positions, Other, value, Essential, Non
 use Rattle.evaluation.specs.Problem.{Prob, three, count, arg, Variable, spotOf, spot, pairLo, pairHi}
 use Rattle.search.specs.Step.{Follows, Follows.consistent, Step, Step.followed, goes}
 use Rattle.search.specs.Run.{sets, Walk, Walk.arrives, Walk.onward}
-use Rattle.evaluation.specs.Height.{top, chain}
 use Rattle.evaluation.specs.Values.{Evaluated, NodesAgree}
+use Rattle.evaluation.specs.Height.{Chain, Chain.ends, Chain.link}
 use Rattle.evaluation.specs.inner.Good.{Good}
 use Rattle.picking.specs.laws.Positions.{few-positions, put-same}
 use Rattle.evaluation.specs.laws.Positions.{at-three}
@@ -31,21 +31,6 @@ use Rattle.evaluation.specs.laws.Pairs.{agreeing-lt}
 -- a value that agrees with a pair whose bits are all fixed is that pair's
 agrees-only : {lo hi v : ℕ} → Agrees lo hi v → lo ≡ hi → v ≡ lo
 agrees-only {lo} {hi} {v} a e = within-antisym (rw (← e) at (within-hi a)) (lo-within a)
-
-pub le-top : (x : Three) (i : ℕ) → at x i ≤ top x
-le-top x zero = omega arith
-le-top x (suc zero) = omega arith
-le-top x (suc (suc i)) = omega arith
-
--- one link more is one more than the longest chain from there
-pub chain-under : (P : Prob) (f n i : ℕ) → i < count P n → suc (chain P f (arg P n i)) ≤ chain P (suc f) n
-unfolding chain
-chain-under P f n i h =
-    omega (
-      arith,
-      le-top (three (count P n) (λ i. suc (chain P f (arg P n i)))) i,
-      at-three (count P n) (λ i. suc (chain P f (arg P n i))) i h (few-positions (P .kind n)),
-    )
 
 -- words that a tape can hold
 abbrev pub Small : List ℕ → Type 0
@@ -203,10 +188,12 @@ module _ (P : Prob) (g : Good P) (vs us : List ℕ) (ev : Evaluated P vs) (eu : 
               (follows (2 * st .place + 1) (c .place) _ (odd-odd (st .place)) h (rw (half-odd (st .place), mod-eq-of-lt (st .place-lt)) (st .is)));
         }
 
-  -- the words that lead from node n, two for each of at most h links, to a variable that differs
-  pub record Led (n s h : ℕ) : Type 0 where
+  -- the words that lead from node n, two for each link of a chain, to a variable that differs
+  pub record Led (n s : ℕ) : Type 0 where
     pub words : List ℕ
-    pub few : length words ≤ 2 * h
+    pub links : ℕ
+    pub chain : Chain P n links
+    pub few : length words ≤ 2 * links
     pub small : Small words
     pub var : ℕ
     pub var-lt : var < P .nodes
@@ -215,10 +202,12 @@ module _ (P : Prob) (g : Good P) (vs us : List ℕ) (ev : Evaluated P vs) (eu : 
     pub steps : ℕ
     pub walk : (rest : List ℕ) → Walk P vs n (getD us n 0) (words ++ rest) s (sets var (getD us var 0) steps rest)
 
-  led-here : (n s h : ℕ) → n < P .nodes → Variable P n → Differs n → Led n s h
-  led-here n s h l v d =
+  led-here : (n s : ℕ) → n < P .nodes → Variable P n → Differs n → Led n s
+  led-here n s l v d =
       record {
         words = [];
+        links = 0;
+        chain = ends;
         few = omega arith;
         small = λ k x. absurd (not-suc-le-zero x);
         var = n;
@@ -230,14 +219,16 @@ module _ (P : Prob) (g : Good P) (vs us : List ℕ) (ev : Evaluated P vs) (eu : 
       }
 
   led-onward :
-      (f n s : ℕ) (l : n < P .nodes) (x : Variable P n → ⊥) (d : Differs n) (st : Stepped n l x d)
-      → Led (arg P n (st .place)) (s + 1) (chain P f (arg P n (st .place)))
-      → Led n s (chain P (suc f) n)
-  led-onward f n s l x d st r =
+      (n s : ℕ) (l : n < P .nodes) (x : Variable P n → ⊥) (d : Differs n) (st : Stepped n l x d)
+      → Led (arg P n (st .place)) (s + 1)
+      → Led n s
+  led-onward n s l x d st r =
       let p : ℕ = getD us (arg P n (st .place)) 0 in
       record {
         words = st .word ∷ p ∷ r .words;
-        few = omega (arith, r .few, chain-under P f n (st .place) (st .place-lt));
+        links = suc (r .links);
+        chain = link (st .place-lt) (r .chain);
+        few = omega (arith, r .few);
         small = small-cons (st .word) (p ∷ r .words) (st .word-lt) (small-cons p (r .words) (st .proposal-lt) (r .small));
         var = r .var;
         var-lt = r .var-lt;
@@ -247,13 +238,13 @@ module _ (P : Prob) (g : Good P) (vs us : List ℕ) (ev : Evaluated P vs) (eu : 
         walk = λ rest. onward {ws = st .word ∷ p ∷ (r .words ++ rest)} x (omega arith) (st .step) (r .walk rest);
       }
 
-  pub lead : (f n s : ℕ) → n < f → n < P .nodes → Differs n → Led n s (chain P f n)
+  pub lead : (f n s : ℕ) → n < f → n < P .nodes → Differs n → Led n s
   lead zero n s h l d = absurd (not-suc-le-zero h)
   lead (suc f) n s h l d =
       elim (ℕ-discrete (P .kind n) 0) [
-        | yes v ↦ led-here n s (chain P (suc f) n) l v d
+        | yes v ↦ led-here n s l v d
         | no x ↦
             let st : Stepped n l x d = stepped n l x d in
             let b : arg P n (st .place) < n = g .node n l .below (st .place) (st .place-lt) in
-            led-onward f n s l x d st (lead f (arg P n (st .place)) (s + 1) (omega arith) (omega arith) (st .differs))
+            led-onward n s l x d st (lead f (arg P n (st .place)) (s + 1) (omega arith) (omega arith) (st .differs))
       ]

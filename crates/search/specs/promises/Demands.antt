@@ -2,16 +2,16 @@
 -- inner places held before has no bearing.
 use mathlib.Core.Path.{_≡_, refl, sym, ap, _∙_}
 use mathlib.Core.Logic.{_↔_}
-use mathlib.Core.List.{List, _++_}
+use mathlib.Core.List.{List, [], _++_}
 use Prim.Native.Nat.{ℕ, _+_, _*_, _^_, _≤_, _<_}
 use native.Mathlib.Omega.{arith}
 use native.Mathlib.Decide.{decLt}
-use lib.ListN.{length, getD}
+use lib.ListN.{length, getD, length-append}
 use lib.Seq.{ext-getD}
 use Rattle.problem.specs.declared.Refusal.{Refusal}
 use Rattle.problem.specs.declared.Checked.the-variants.{Accepted, Refused}
 use Rattle.problem.specs.Layout.{nodeCount}
-use Rattle.problem.specs.Refusals.{numberOf as refusalNumber, placeOf as refusalPlace}
+use Rattle.problem.specs.Refusals.{numberOf as refusalNumber, placeOf as refusalPlace, checked}
 use Rattle.search.specs.declared.Verdict.{Verdict}
 use Rattle.search.specs.declared.Outcome.{Outcome}
 use Rattle.search.specs.declared.Answer.{Answer}
@@ -21,12 +21,13 @@ use Rattle.search.specs.Run.{AllOne, answer, Whole, Whole.closed, Whole.
 use Rattle.search.specs.Call.{refusals, refused, Called, Called.refuses, Called.runs}
 use Rattle.evaluation.specs.Values.{Evaluated, NodesAgree}
 use Rattle.search.specs.Reach.{Solution, apart}
-use Rattle.evaluation.specs.Height.{longest}
+use Rattle.evaluation.specs.Height.{Longest}
 use Rattle.evaluation.specs.inner.Good.{Good}
 use Rattle.evaluation.specs.laws.Good.{good-of}
 use Rattle.evaluation.specs.laws.Values.{length-evaluate, evaluate-above, evaluate-variable, evaluate-fixed, evaluated-same}
 use Rattle.evaluation.specs.laws.Pairs.{every-node}
 use Rattle.search.specs.laws.Runs.{Kept, whole-kept, Concluded, whole-concluded}
+use Rattle.search.specs.Chains.{longest, longest-is, longest-unique}
 use Rattle.search.specs.laws.Found.{found}
 use Rattle.search.specs.promises.Accepted.{Accepts, accepted-start}
 use Rattle.search.specs.laws.Starts.{refusals-same}
@@ -192,30 +193,36 @@ pub record Call (s start ws : List ℕ) (B : ℕ) : Type 0 where
   pub answer : Answer
   pub called : Called s start ws B out answer
 
--- words of a tape with which, whatever follows them, every result that the contract allows is model within d moves; and
--- there is one
-pub record Demand3 (s start : List ℕ) (B d : ℕ) : Type 0 where
+-- model, within d moves and so many words
+pub record ModelWithin (d most : ℕ) (a : Answer) : Type 0 where
+  pub model : a .outcome ≡ Outcome.Settled Verdict.Model
+  pub moves : a .moves ≤ d
+  pub words : a .words ≤ most
+
+-- words of a tape with which, whatever follows them, every result that the contract allows is model within d moves and
+-- d x (1 + 2H) words; and there is one
+pub record Demand3 (s start : List ℕ) (B d H : ℕ) : Type 0 where
   pub words : List ℕ
-  pub few : length words ≤ d * (1 + 2 * longest (problem s))
+  pub few : length words ≤ d * (1 + 2 * H)
   pub small : (k : ℕ) → k < length words → getD words k 0 < 2 ^ 64
   pub some : (rest : List ℕ) → Call s start (words ++ rest) B
-  pub every :
-      (rest out : List ℕ) (a : Answer)
-      → Called s start (words ++ rest) B out a
-      → (a .outcome ≡ Outcome.Settled Verdict.Model) × (a .moves ≤ d)
+  pub every : (rest out : List ℕ) (a : Answer) → Called s start (words ++ rest) B out a → ModelWithin d (d * (1 + 2 * H)) a
 
 -- "any accepted problem, any solution that agrees with the variables' fixed bits, any accepted start that differs from it
 -- in d variables, any budget of at least d: there is a tape of at most d x (1 + 2H) words"
 pub demand-3 :
-    (s start us : List ℕ) (d B : ℕ)
+    (s start us : List ℕ) (d B H : ℕ)
     → refusals s start ≡ Accepted
     → Solution (problem s) us
     → apart (problem s) start us (nodeCount s) ≤ d
     → d ≤ B
-    → Demand3 s start B d
+    → Longest (problem s) H
+    → Demand3 s start B d H
 unfolding problem
-demand-3 s start us d B e sol near b =
-    let f = found (problem s) (good s start e) us sol B start d (room s start e) (accepts s start e .agrees) near b in
+demand-3 s start us d B H e sol near b top =
+    let f = found (problem s) (good s start e) H top us sol B start d (room s start e) (accepts s start e .agrees) near b in
+    -- with nothing after them it reads no more than these words
+    let read : f .moves + 2 * f .steps ≤ length (f .words ++ []) = demand-2 (runs e (f .ends [])) refl .tape in
     record {
       words = f .words;
       few = f .few;
@@ -223,6 +230,12 @@ demand-3 s start us d B e sol near b =
       some = λ rest. record { out = f .out; answer = answer (f .moves) (f .steps) Verdict.Model; called = runs e (f .ends rest) };
       every =
           λ rest out a c.
-          let same = called-unique c (runs e (f .ends rest)) in
-          (ap (λ (x : Answer). x .outcome) (same .answers), rw (ap (λ (x : Answer). x .moves) (same .answers)) (f .moves-le));
+          let same = called-unique c (runs e (f .ends rest)) .answers in
+          rw same
+          (record { model = refl; moves = f .moves-le; words = omega (arith, read, f .few, length-append (f .words) []) });
     }
+
+-- of every accepted problem there is exactly one such H
+pub longest-exact :
+    (s : List ℕ) → checked s ≡ Accepted → Longest (problem s) (longest (problem s)) × ((h : ℕ) → Longest (problem s) h → h ≡ longest (problem s))
+longest-exact s e = let l = longest-is (problem s) (good-of s e) in (l, λ h t. longest-unique t l)
