@@ -21,3 +21,8 @@ name Model = "model"
 name Spent = "spent"
 name Ended = "ended"
 name Closed = "closed"
+
+-- what an outcome is called: a verdict by its name, a refusal `refused`
+abbrev pub said : Outcome → String
+said (Refused r) = "refused"
+said (Settled v) = name v

@@ -1,12 +1,15 @@
 -- Laws of runs: that the values stay evaluated and agreeing, that places beyond the nodes are kept, and what the answer says
 -- of the values handed back, of the budget and of the tape.
-use mathlib.Core.Path.{_≡_, refl, ap, _∙_, subst}
+use mathlib.Core.Path.{_≡_, refl, sym, ap, _∙_, subst}
 use mathlib.Core.Logic.{_↔_}
+use mathlib.Core.Bool.{Bool, true, false}
 use mathlib.Core.List.{List}
 use Prim.Native.Nat.{ℕ, _+_, _*_, _≤_, _<_}
+use Prim.Native.String.{String}
 use native.Mathlib.Omega.{arith}
 use native.Mathlib.Decide.{ℕ-discrete}
 use lib.ListN.{length, getD, set, length-set}
+use lib.Text.{eqt}
 use lib.Seq.{getD-set-same, getD-set-other}
 use Rattle.words.specs.laws.Agree.{within-hi, within-le}
 use Rattle.operators.specs.declared.fixed.Pair.{Pair}
@@ -14,6 +17,7 @@ use Rattle.operators.specs.inner.Ready.{Agreeing}
 use Rattle.search.specs.declared.Verdict.{Verdict}
 use Rattle.search.specs.declared.Outcome.{Outcome}
 use Rattle.search.specs.declared.Answer.{Answer}
+use Rattle.search.specs.Answers.{name}
 use Rattle.evaluation.specs.Problem.{Prob, evaluate}
 use Rattle.search.specs.Run.{AllOne, ClosedRoot, Run, Run.model, Run.spent, Run.ended, Run.moved, Run.held, Whole, Whole.closed, Whole.searched}
 use Rattle.evaluation.specs.Values.{VariablesAgree, NodesAgree}
@@ -90,6 +94,25 @@ module _ (P : Prob) (g : Good P) where
   whole-kept {start = start} (searched c r) room va = let e = kept-start start room va in kept-on e (run-kept c r (e .values))
 
 -- ---- what the answer says
+
+-- a verdict is known by its name
+abbrev known : Bool → Verdict → Verdict → Verdict
+known true v u = v
+known false v u = u
+
+abbrev called : String → Verdict
+called x =
+    known (eqt x (name Verdict.Model)) Verdict.Model
+    (known (eqt x (name Verdict.Spent)) Verdict.Spent (known (eqt x (name Verdict.Ended)) Verdict.Ended Verdict.Closed))
+
+called-name : (v : Verdict) → called (name v) ≡ v
+called-name Verdict.Model = refl
+called-name Verdict.Spent = refl
+called-name Verdict.Ended = refl
+called-name Verdict.Closed = refl
+
+pub same-name : (v u : Verdict) → name v ≡ name u → v ≡ u
+same-name v u e = sym (called-name v) ∙ ap called e ∙ called-name u
 
 -- the verdicts by number, to tell model from the others
 abbrev number : Verdict → ℕ

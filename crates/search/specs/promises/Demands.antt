@@ -15,7 +15,7 @@ use Rattle.problem.specs.Refusals.{numberOf as refusalNumber, placeOf as refusa
 use Rattle.search.specs.declared.Verdict.{Verdict}
 use Rattle.search.specs.declared.Outcome.{Outcome}
 use Rattle.search.specs.declared.Answer.{Answer}
-use Rattle.search.specs.Answers.{numberOf, placeOf}
+use Rattle.search.specs.Answers.{numberOf, placeOf, name, said}
 use Rattle.evaluation.specs.Problem.{Prob, problem, Variable, evaluate}
 use Rattle.search.specs.Run.{AllOne, answer, Whole, Whole.closed, Whole.searched}
 use Rattle.search.specs.Call.{refusals, refused, Called, Called.refuses, Called.runs}
@@ -26,7 +26,7 @@ use Rattle.evaluation.specs.inner.Good.{Good}
 use Rattle.evaluation.specs.laws.Good.{good-of}
 use Rattle.evaluation.specs.laws.Values.{length-evaluate, evaluate-above, evaluate-variable, evaluate-fixed, evaluated-same}
 use Rattle.evaluation.specs.laws.Pairs.{every-node}
-use Rattle.search.specs.laws.Runs.{Kept, whole-kept, Concluded, whole-concluded}
+use Rattle.search.specs.laws.Runs.{Kept, whole-kept, same-name, Concluded, whole-concluded}
 use Rattle.search.specs.Chains.{longest, longest-is, longest-unique}
 use Rattle.search.specs.laws.Found.{found}
 use Rattle.search.specs.promises.Accepted.{Accepts, accepted-start}
@@ -62,8 +62,9 @@ clash p q = let z : _≡_ {A = ℕ} 0 1 = cc in omega arith
 same-outcome : {r r′ : Refusal} → Outcome.Refused r ≡ Outcome.Refused r′ → r ≡ r′
 same-outcome p = cc
 
-same-verdict : {o : Outcome} {v v′ : Verdict} → o ≡ Outcome.Settled v → o ≡ Outcome.Settled v′ → v ≡ v′
-same-verdict p q = cc
+-- an outcome that is a verdict is called model exactly if it is that verdict
+model-said : {o : Outcome} {v : Verdict} → o ≡ Outcome.Settled v → (said o ≡ "model") ↔ (v ≡ Verdict.Model)
+model-said {v = v} q = (λ e. same-name v Verdict.Model (sym (ap said q) ∙ e), λ e. ap said q ∙ ap name e)
 
 -- ---- demand 1
 
@@ -102,8 +103,8 @@ demand-1 {s} {start} (runs e w) =
 -- the answer says model exactly when every root is 1 under the values handed back; "After a verdict the first N places hold
 -- every node's value under the final variables; later places are untouched"; every value agrees with its pair; "words =
 -- moves + 2 x steps", within the budget and the tape
-pub record Demand2 (s start ws : List ℕ) (B : ℕ) (out : List ℕ) (a : Answer) (v : Verdict) : Type 0 where
-  pub model : (v ≡ Verdict.Model) ↔ AllOne (problem s) out
+pub record Demand2 (s start ws : List ℕ) (B : ℕ) (out : List ℕ) (a : Answer) : Type 0 where
+  pub model : (said (a .outcome) ≡ "model") ↔ AllOne (problem s) out
   pub evaluated : Evaluated (problem s) out
   pub agrees : NodesAgree (problem s) out
   pub places : length out ≡ length start
@@ -113,17 +114,18 @@ pub record Demand2 (s start ws : List ℕ) (B : ℕ) (out : List ℕ) (a : Answe
   pub tape : a .words ≤ length ws
 
 pub demand-2 :
-    {s start ws : List ℕ} {B : ℕ} {out : List ℕ} {a : Answer} {v : Verdict}
+    {s start ws : List ℕ} {B : ℕ} {out : List ℕ} {a : Answer}
     → Called s start ws B out a
-    → a .outcome ≡ Outcome.Settled v
-    → Demand2 s start ws B out a v
+    → Settled a
+    → Demand2 s start ws B out a
 unfolding problem
-demand-2 (refuses r e) q = absurd (clash refl q)
-demand-2 {s} {start} {out = out} (runs e w) q =
+demand-2 (refuses r e) t = absurd (clash refl (t .is))
+demand-2 {s} {start} {out = out} (runs e w) t =
     let k = kept s start e w in
     let c = concluded s start e w in
+    let said-so = model-said (c .settled) in
     record {
-      model = rw (same-verdict q (c .settled)) (c .model);
+      model = (λ h. c .model .0 (said-so .0 h), λ y. said-so .1 (c .model .1 y));
       evaluated = k .values .evaluated;
       agrees = every-node (problem s) (good s start e) out (k .values);
       places = k .long;
@@ -195,7 +197,7 @@ pub record Call (s start ws : List ℕ) (B : ℕ) : Type 0 where
 
 -- model, within d moves and so many words
 pub record ModelWithin (d most : ℕ) (a : Answer) : Type 0 where
-  pub model : a .outcome ≡ Outcome.Settled Verdict.Model
+  pub model : said (a .outcome) ≡ "model"
   pub moves : a .moves ≤ d
   pub words : a .words ≤ most
 
@@ -222,7 +224,7 @@ unfolding problem
 demand-3 s start us d B H e sol near b top =
     let f = found (problem s) (good s start e) H top us sol B start d (room s start e) (accepts s start e .agrees) near b in
     -- with nothing after them it reads no more than these words
-    let read : f .moves + 2 * f .steps ≤ length (f .words ++ []) = demand-2 (runs e (f .ends [])) refl .tape in
+    let read : f .moves + 2 * f .steps ≤ length (f .words ++ []) = demand-2 (runs e (f .ends [])) (record { verdict = Verdict.Model; is = refl }) .tape in
     record {
       words = f .words;
       few = f .few;
