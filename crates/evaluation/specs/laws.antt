@@ -1,6 +1,7 @@
 -- Laws of the definitions, for proofs. Nothing here has to be read to know what is promised.
 pub mod Decide
 pub mod Good
+pub mod Height
 pub mod Nodes
 pub mod Pairs
 pub mod Positions

@@ -4,7 +4,6 @@ pub mod Run
 pub mod Call
 pub mod Answers
 pub mod Reach
-pub mod Chains
 pub mod inner
 pub mod promises
 pub mod laws

@@ -27,7 +27,7 @@ use Rattle.evaluation.specs.laws.Good.{good-of}
 use Rattle.evaluation.specs.laws.Values.{length-evaluate, evaluate-above, evaluate-variable, evaluate-fixed, evaluated-same}
 use Rattle.evaluation.specs.laws.Pairs.{every-node}
 use Rattle.search.specs.laws.Runs.{Kept, whole-kept, same-name, Concluded, whole-concluded}
-use Rattle.search.specs.Chains.{longest, longest-is, longest-unique}
+use Rattle.evaluation.specs.laws.Height.{longest, longest-is, longest-unique}
 use Rattle.search.specs.laws.Found.{found}
 use Rattle.search.specs.promises.Accepted.{Accepts, accepted-start}
 use Rattle.search.specs.laws.Starts.{refusals-same}
