@@ -26,3 +26,10 @@ name Closed = "closed"
 abbrev pub said : Outcome → String
 said (Refused r) = "refused"
 said (Settled v) = name v
+
+-- the number that stands for a verdict where names do not (the C interface), in the order of the names
+abbrev pub verdictNumber : Verdict → ℕ
+verdictNumber Model = 0
+verdictNumber Spent = 1
+verdictNumber Ended = 2
+verdictNumber Closed = 3

@@ -1,20 +1,14 @@
--- What the calls of the C interface answer, as numbers.
+-- What the picks of the C interface answer, as numbers.
 use mathlib.Core.Path.{_≡_}
 use mathlib.Core.List.{List}
-use Prim.Native.Nat.{ℕ, zero, suc, _+_, _*_, _%_, _^_, _<_}
+use Prim.Native.Nat.{ℕ, zero, suc, _+_, _%_, _^_, _<_}
 use lib.ListN.{length, getD, set}
 use Rattle.words.specs.declared.found.Found.the-variants.{At, Nothing}
 use Rattle.words.specs.Pick.{Picked}
-use Rattle.problem.specs.declared.Checked.{Checked}
-use Rattle.problem.specs.Refusals.{numberOf, placeOf}
 use Rattle.picking.specs.declared.spot.Three.{Three}
 use Rattle.picking.specs.declared.spot.Spot.{Spot}
 use Rattle.picking.specs.Spot.{at, Inverse, Consistent, Essential}
 use Rattle.walumpeh.specs.Offered.{Offered}
-
--- 0 for accepted, else the refusal's number in the low 8 bits and its place above
-abbrev pub codeOf : Checked → ℕ
-codeOf c = numberOf c + 256 * placeOf c
 
 -- three words from place k on
 abbrev pub threeFrom : List ℕ → ℕ → Three

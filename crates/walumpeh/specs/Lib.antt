@@ -2,4 +2,5 @@
 pub mod Offered
 pub mod Calls
 pub mod Runs
+pub mod Codes
 pub mod promises

@@ -1,39 +1,41 @@
 -- What a run answers through the C interface, as numbers.
 use mathlib.Core.Path.{_≡_, refl, ap}
+use mathlib.Core.Logic.{_↔_}
 use mathlib.Core.List.{List}
-use Prim.Native.Nat.{ℕ, _+_, _≤_, _<_}
+use Prim.Native.Nat.{ℕ, _≤_, _<_}
 use native.Mathlib.Omega.{arith}
 use lib.ListN.{length, set}
-use Rattle.search.specs.declared.Verdict.{Verdict}
-use Rattle.search.specs.declared.Verdict.the-variants.{Model, Spent, Ended, Closed}
+use Rattle.problem.specs.declared.Checked.{Checked}
+use Rattle.problem.specs.Layout.{nodeCount}
+use Rattle.problem.specs.Refusals.{numberOf as checkedNumber}
+use Rattle.problem.specs.laws.First.{then-each, first-of-each, first-below-each}
+use Rattle.problem.specs.promises.Numbers.{numbered}
 use Rattle.search.specs.declared.Outcome.{Outcome}
 use Rattle.search.specs.declared.Outcome.the-variants.{Refused, Settled}
 use Rattle.search.specs.declared.Answer.{Answer}
-use Rattle.search.specs.Answers.{placeOf}
-use Rattle.search.specs.Call.{Called}
+use Rattle.search.specs.Answers.{verdictNumber}
+use Rattle.search.specs.Call.{placesFault, startFault, refusals, Called}
+use Rattle.search.specs.promises.Demands.{demand-1}
 use Rattle.search.specs.promises.Determined.{run-determined}
+use Rattle.walumpeh.specs.Codes.{outcomeCode, tooShort}
 
--- the number of each verdict, in document 01's order of names
-abbrev pub verdictCode : Verdict → ℕ
-verdictCode Model = 0
-verdictCode Spent = 1
-verdictCode Ended = 2
-verdictCode Closed = 3
+-- 0 model, 1 spent, 2 ended, 3 closed, 4 refused
+abbrev pub verdictCode : Outcome → ℕ
+verdictCode (Settled v) = verdictNumber v
+verdictCode (Refused r) = 4
 
--- a refusal's number is 16 more
-abbrev pub outcomeCode : Outcome → ℕ
-outcomeCode (Settled v) = verdictCode v
-outcomeCode (Refused r) = 16 + r .number
+-- the verdict and the counts in the first places, of which so many are counted on
+abbrev pub counted : ℕ
+counted = 4
 
--- the counts and the refusal's place in the first four places
 abbrev pub reported : List ℕ → Answer → List ℕ
-reported out a = set (set (set (set out 0 (a .moves)) 1 (a .steps)) 2 (a .words)) 3 (placeOf (a .outcome))
+reported out a = set (set (set (set out 0 (verdictCode (a .outcome))) 1 (a .moves)) 2 (a .steps)) 3 (a .words)
 
 -- a call with the bytes s, the places start, the tape ws, the budget B and the places out: values and out afterwards, and
 -- the number
 pub data RunCode (s start ws : List ℕ) (B : ℕ) (out : List ℕ) : List ℕ → List ℕ → ℕ → Type 0 where
-  no-room : length out < 4 → RunCode s start ws B out start out 32
-  called : {vs : List ℕ} {a : Answer} → 4 ≤ length out → Called s start ws B vs a → RunCode s start ws B out vs (reported out a) (outcomeCode (a .outcome))
+  no-room : length out < counted → RunCode s start ws B out start out tooShort
+  called : {vs : List ℕ} {a : Answer} → counted ≤ length out → Called s start ws B vs a → RunCode s start ws B out vs (reported out a) (outcomeCode (a .outcome))
 
 pub wal-run-determined :
     (s start ws : List ℕ) (B : ℕ) (out : List ℕ) {vs vs′ o o′ : List ℕ} {r r′ : ℕ}
@@ -46,3 +48,23 @@ wal-run-determined s start ws B out (called h c) (no-room h′) = absurd (omega 
 wal-run-determined s start ws B out (called {vs} {a = a} h c) (called {vs = vs′} {a = a′} h′ c′) =
     let e = run-determined s start ws B vs vs′ a a′ c c′ in
     (e .0, ap (reported out) (e .1), ap (λ (x : Answer). outcomeCode (x .outcome)) (e .1))
+
+-- ---- 255 is told where out is too short, and nowhere else: the numbers of refusals go up to 15
+
+abbrev Few : Checked → Type 0
+Few c = checkedNumber c ≤ 15
+
+few-numbers : (s start : List ℕ) → checkedNumber (refusals s start) ≤ 15
+unfolding refusals placesFault startFault
+few-numbers s start =
+    then-each Few _ _ (omega (arith, numbered s .most))
+    (then-each Few _ _ (first-of-each Few 0 14 14 _ refl (λ k a b. omega arith) (omega arith))
+    (first-below-each _ Few (omega arith) (nodeCount s)
+    (λ i h. first-of-each Few i 15 15 _ refl (λ k a b. omega arith) (omega arith))))
+
+pub short-told :
+    {s start ws : List ℕ} {B : ℕ} {out vs o : List ℕ} {r : ℕ} → RunCode s start ws B out vs o r → (r ≡ tooShort) ↔ (length out < counted)
+short-told (no-room h) = (λ e. h, λ l. refl)
+short-told {s} {start} (called h c) =
+    let n = demand-1 c .number in
+    let f = few-numbers s start in (λ e. absurd (omega arith), λ l. absurd (omega arith))

@@ -1,15 +1,17 @@
 // The run, as numbers.
+use crate::codes::TOO_SHORT;
+use crate::codes::outcome_code;
 use search::Answer;
 use search::Outcome;
 use search::Verdict;
 ghost use mathlib.Core.Path.{_≡_};
 ghost use Prim.Native.Nat.{_≤_};
 ghost use lib.ListN.{length};
-ghost use Rattle.search.specs.Answers.{placeOf};
-ghost use Rattle.walumpeh.specs.Runs.{verdictCode, outcomeCode, reported, RunCode};
+ghost use Rattle.search.specs.Answers.{verdictNumber};
+ghost use Rattle.walumpeh.specs.Runs.{verdictCode, counted, reported, RunCode};
 
-fn verdict_code(v: Verdict) -> u32
-    ensures { λ r. ⌜ r ≡ verdictCode v ⌝ }
+fn verdict_number(v: Verdict) -> u64
+    ensures { λ r. ⌜ r ≡ verdictNumber v ⌝ }
 {
     match v {
         Verdict::Model => 0,
@@ -19,39 +21,31 @@ fn verdict_code(v: Verdict) -> u32
     }
 }
 
-fn outcome_code(o: Outcome) -> u32
-    ensures { λ r. ⌜ r ≡ outcomeCode o ⌝ }
+// 0 model, 1 spent, 2 ended, 3 closed, 4 refused.
+fn verdict_code(o: Outcome) -> u64
+    ensures { λ r. ⌜ r ≡ verdictCode o ⌝ }
 {
     match o {
-        Outcome::Settled(v) => verdict_code(v),
-        Outcome::Refused(why) => 16 + (why.number as u32),
+        Outcome::Settled(v) => verdict_number(v),
+        Outcome::Refused(_) => 4,
     }
 }
 
-fn outcome_place(o: Outcome) -> u64
-    ensures { λ r. ⌜ r ≡ placeOf o ⌝ }
-{
-    match o {
-        Outcome::Settled(_) => 0,
-        Outcome::Refused(why) => why.place as u64,
-    }
-}
-
-// The counts and the refusal's place, stored in the first four places.
+// The verdict and the counts, stored in the first places of out.
 fn report(a: Answer, out: &mut [u64])
-    requires { ⌜ 4 ≤ length (now out) ⌝ }
+    requires { ⌜ counted ≤ length (now out) ⌝ }
     ensures { λ r. ⌜ now (out .exit) ≡ reported (now (out .entry)) a ⌝ }
 {
     let outcome = a.outcome;
-    let place = outcome_place(outcome);
-    out[0] = a.moves;
-    out[1] = a.steps;
-    out[2] = a.words;
-    out[3] = place;
+    let verdict = verdict_code(outcome);
+    out[0] = verdict;
+    out[1] = a.moves;
+    out[2] = a.steps;
+    out[3] = a.words;
 }
 
-// A whole run: 0 model, 1 spent, 2 ended, 3 closed, 16 + the number of a refusal; out takes moves, steps, words and the
-// refusal's place. 32 where out has fewer than four places: then nothing is run.
+// A whole run: the refusal's number + 256 times its place, 0 where nothing is refused; out takes the verdict, moves, steps and
+// words. 255 where out has fewer than four places: then nothing is run.
 #[no_mangle]
 pub extern "C" fn wal_run(
     problem: &[u8],
@@ -59,11 +53,11 @@ pub extern "C" fn wal_run(
     tape: &[u64],
     budget: u16,
     out: &mut [u64],
-) -> u32
+) -> u64
     ensures { λ r. ⌜ RunCode (now (problem .entry)) (now (values .entry)) (now (tape .entry)) budget (now (out .entry)) (now (values .exit)) (now (out .exit)) r ⌝ }
 {
     if out.len() < 4 {
-        return 32;
+        return TOO_SHORT;
     }
     let answer = search::run(problem, values, tape, budget);
     let outcome = answer.outcome;

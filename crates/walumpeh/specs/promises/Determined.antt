@@ -11,9 +11,10 @@ use Rattle.words.specs.laws.Pick.{picked-unique}
 use Rattle.problem.specs.Refusals.{checked}
 use Rattle.picking.specs.declared.spot.Spot.{Spot}
 use Rattle.picking.specs.Spot.{at}
-use Rattle.walumpeh.specs.Calls.{codeOf, setOf, EssentialCode, EssentialCode.refused, EssentialCode.essential, EssentialCode.not-essential, PickCode, PickCode.no-place, PickCode.refused, PickCode.nothing, PickCode.found}
+use Rattle.walumpeh.specs.Codes.{checkedCode}
+use Rattle.walumpeh.specs.Calls.{setOf, EssentialCode, EssentialCode.refused, EssentialCode.essential, EssentialCode.not-essential, PickCode, PickCode.no-place, PickCode.refused, PickCode.nothing, PickCode.found}
 
-pub wal-check-determined : (b : List ℕ) (r s : ℕ) → r ≡ codeOf (checked b) → s ≡ codeOf (checked b) → r ≡ s
+pub wal-check-determined : (b : List ℕ) (r s : ℕ) → r ≡ checkedCode (checked b) → s ≡ checkedCode (checked b) → r ≡ s
 wal-check-determined b r s p q = p ∙ sym q
 
 pub wal-essential-determined : (S : Spot) (i t : ℕ) {r s : ℕ} → EssentialCode S i t r → EssentialCode S i t s → r ≡ s

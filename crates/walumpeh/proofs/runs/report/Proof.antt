@@ -5,8 +5,8 @@ use borrow.Author.Needs.{needs}
 use Rattle.walumpeh.proofs.runs.report.Statement.{statement}
 use Rattle.walumpeh.proofs.runs.report.Tie as tie
 
-outcome-place-requires : tie.Need-outcome-place-requires
-outcome-place-requires c κs = search needs
+verdict-code-requires : tie.Need-verdict-code-requires
+verdict-code-requires c κs = search needs
 
 slice-write-out : tie.Need-slice-write-out
 slice-write-out c = search needs
@@ -24,13 +24,13 @@ same-length : tie.Need-same-length
 same-length c = search needs
 
 returns : tie.Need-returns
-returns c = rw (c .outcome-place .ensures)
+returns c = rw (c .verdict-code .ensures)
 
 pub report-spec : {M : Type 1} → statement M
 report-spec =
     tie.close
     (tie.spec
-    outcome-place-requires
+    verdict-code-requires
     slice-write-out
     slice-write-out-2
     slice-write-out-3

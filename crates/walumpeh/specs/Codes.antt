@@ -1,0 +1,21 @@
+-- What every call but the two picks answers, as a number: 0 where nothing is refused, else the refusal's number + 256 x its place.
+use Prim.Native.Nat.{ℕ, _+_, _*_}
+use Rattle.problem.specs.declared.Checked.{Checked}
+use Rattle.problem.specs.Refusals.{numberOf as checkedNumber, placeOf as checkedPlace}
+use Rattle.search.specs.declared.Outcome.{Outcome}
+use Rattle.search.specs.Answers.{numberOf, placeOf}
+
+-- the paper's number in the low 8 bits, the place above
+abbrev pub refusalCode : ℕ → ℕ → ℕ
+refusalCode number place = number + 256 * place
+
+-- of the problem check's answer, and of a run's
+abbrev pub checkedCode : Checked → ℕ
+checkedCode c = refusalCode (checkedNumber c) (checkedPlace c)
+
+abbrev pub outcomeCode : Outcome → ℕ
+outcomeCode o = refusalCode (numberOf o) (placeOf o)
+
+-- a number that no refusal has: an array lent for the answer is too short
+abbrev pub tooShort : ℕ
+tooShort = 255
