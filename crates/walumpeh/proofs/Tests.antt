@@ -22,14 +22,14 @@ both {A} {B} {a} {b} p q = record { is = by a b (p .is) (q .is) }
     by true false x y = λ p. y (p .1)
     by false b x y = λ p. x (p .0)
 
--- A wherever k is below n
-pub where-below : {A : Type 0} {a : Bool} (k n : ℕ) → Told A a → Told (k < n → A) (leb n k || a)
-where-below {A} {a} k n p = record { is = by (leb n k) refl a (p .is) }
+-- A wherever n is at most k
+pub where-most : {A : Type 0} {a : Bool} (k n : ℕ) → Told A a → Told (n ≤ k → A) (ltb k n || a)
+where-most {A} {a} k n p = record { is = by (ltb k n) refl a (p .is) }
   where
-    by : (t : Bool) → leb n k ≡ t → (a : Bool) → Decides A a → Decides (k < n → A) (t || a)
-    by true e a x = λ h. absurd (omega (arith, leb-true n k e))
+    by : (t : Bool) → ltb k n ≡ t → (a : Bool) → Decides A a → Decides (n ≤ k → A) (t || a)
+    by true e a x = λ h. absurd (omega (arith, ltb-true k n e))
     by false e true x = λ h. x
-    by false e false x = λ f. x (f (leb-false n k e))
+    by false e false x = λ f. x (f (ltb-false k n e))
 
 pub at-most : (a b : ℕ) → Told (a ≤ b) (leb a b)
 at-most a b = record { is = by (leb a b) refl }

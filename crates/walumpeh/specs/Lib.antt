@@ -1,6 +1,7 @@
--- The definitions to be believed, in this order; then by folder what is inner, what is promised, and laws.
+-- The definitions to be believed, in this order; then by folder what is promised, and laws.
+pub mod Codes
 pub mod Offered
 pub mod Calls
 pub mod Runs
-pub mod Codes
 pub mod promises
+pub mod laws

@@ -4,17 +4,20 @@ use borrow.Author.Needs.{needs}
 use Rattle.walumpeh.proofs.offered.slots.Statement.{statement}
 use Rattle.walumpeh.proofs.offered.slots.Tie as tie
 
-slot-requires : tie.Need-slot-requires
-slot-requires c κs = search needs
+placed-requires : tie.Need-placed-requires
+placed-requires c κs = search needs
 
-slot-requires-2 : tie.Need-slot-requires-2
-slot-requires-2 c κs = search needs
+placed-requires-2 : tie.Need-placed-requires-2
+placed-requires-2 c κs = search needs
 
-slot-requires-3 : tie.Need-slot-requires-3
-slot-requires-3 c κs = search needs
+placed-requires-3 : tie.Need-placed-requires-3
+placed-requires-3 c κs = search needs
 
 returns : tie.Need-returns
-returns c = slots-law (c .before .before .before .before .before .before .before .args .s) (c .before .before .before .before .before .before .before .args .n) (c .before .before .before .before .before .before .before .pre) (c .before .before .slot .result) (c .before .slot2 .result) (c .slot3 .result) (c .before .before .slot .ensures) (c .before .slot2 .ensures) (c .slot3 .ensures)
+returns c =
+    let k = c .before .before .before .before .before .before .before in
+    slots-law (k .args .s) (k .args .n) (k .pre) (c .before .before .placed .result) (c .before .placed2 .result) (c .placed3 .result)
+    (c .before .before .placed .ensures) (c .before .placed2 .ensures) (c .placed3 .ensures)
 
 pub slots-spec : {M : Type 1} → statement M
-slots-spec = tie.close (tie.spec slot-requires slot-requires-2 slot-requires-3 returns)
+slots-spec = tie.close (tie.spec placed-requires placed-requires-2 placed-requires-3 returns)
