@@ -1,0 +1,50 @@
+-- The contract of `wal_run` determines its number and every lent place, and 255 is told exactly where `out` is too short.
+use mathlib.Core.Path.{_≡_, refl, ap}
+use mathlib.Core.Logic.{_↔_}
+use mathlib.Core.List.{List}
+use Prim.Native.Nat.{ℕ, _≤_, _<_}
+use native.Mathlib.Omega.{arith}
+use lib.ListN.{length}
+use Rattle.problem.specs.declared.Checked.{Checked}
+use Rattle.problem.specs.Layout.{nodeCount}
+use Rattle.problem.specs.Refusals.{numberOf as checkedNumber}
+use Rattle.problem.specs.laws.First.{then-each, first-of-each, first-below-each}
+use Rattle.problem.specs.promises.Numbers.{numbered}
+use Rattle.search.specs.declared.Answer.{Answer}
+use Rattle.search.specs.Call.{placesFault, startFault, refusals}
+use Rattle.search.specs.promises.Demands.{demand-1}
+use Rattle.search.specs.promises.Determined.{run-determined}
+use Rattle.walumpeh.specs.Codes.{outcomeCode, tooShort}
+use Rattle.walumpeh.specs.Runs.{counted, reported, RunCode, RunCode.no-room, RunCode.called}
+
+pub wal-run-determined :
+    (s start ws : List ℕ) (B : ℕ) (out : List ℕ) {vs vs′ o o′ : List ℕ} {r r′ : ℕ}
+    → RunCode s start ws B out vs o r
+    → RunCode s start ws B out vs′ o′ r′
+    → (vs ≡ vs′) × (o ≡ o′) × (r ≡ r′)
+wal-run-determined s start ws B out (no-room h) (no-room h′) = (refl, refl, refl)
+wal-run-determined s start ws B out (no-room h) (called h′ c′) = absurd (omega arith)
+wal-run-determined s start ws B out (called h c) (no-room h′) = absurd (omega arith)
+wal-run-determined s start ws B out (called {vs} {a = a} h c) (called {vs = vs′} {a = a′} h′ c′) =
+    let e = run-determined s start ws B vs vs′ a a′ c c′ in
+    (e .0, ap (reported out) (e .1), ap (λ (x : Answer). outcomeCode (x .outcome)) (e .1))
+
+-- ---- 255 is told where out is too short, and nowhere else: the numbers of refusals go up to 15
+
+abbrev Few : Checked → Type 0
+Few c = checkedNumber c ≤ 15
+
+few-numbers : (s start : List ℕ) → checkedNumber (refusals s start) ≤ 15
+unfolding refusals placesFault startFault
+few-numbers s start =
+    then-each Few _ _ (omega (arith, numbered s .most))
+    (then-each Few _ _ (first-of-each Few 0 14 14 _ refl (λ k a b. omega arith) (omega arith))
+    (first-below-each _ Few (omega arith) (nodeCount s)
+    (λ i h. first-of-each Few i 15 15 _ refl (λ k a b. omega arith) (omega arith))))
+
+pub short-told :
+    {s start ws : List ℕ} {B : ℕ} {out vs o : List ℕ} {r : ℕ} → RunCode s start ws B out vs o r → (r ≡ tooShort) ↔ (length out < counted)
+short-told (no-room h) = (λ e. h, λ l. refl)
+short-told {s} {start} (called h c) =
+    let n = demand-1 c .number in
+    let f = few-numbers s start in (λ e. absurd (omega arith), λ l. absurd (omega arith))
