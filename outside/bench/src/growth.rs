@@ -4,9 +4,9 @@ use crate::measure::{fastest, SIDES};
 use crate::plot::{plot, Series};
 use crate::workload::Workload;
 use generate::families::deep;
-use tools::args::Fault;
+use std::path::Path;
 
-pub fn table(rounds: usize, svg: &str) -> Result<(), Fault> {
+pub fn table(rounds: usize, svg: Option<&Path>) -> Result<(), String> {
     let nodes = [16, 32, 64, 128, 256, 512, 768, 1024];
     println!(
         "{:>6} {:>12} {:>12}   {:>8} {:>8}   {:>5}",
@@ -39,9 +39,9 @@ pub fn table(rounds: usize, svg: &str) -> Result<(), Fault> {
         );
         [f64::from(budget), library / 1000.0, plain / 1000.0]
     });
-    if svg.is_empty() {
+    let Some(svg) = svg else {
         return Ok(());
-    }
+    };
     let series = |name, rows: &[[f64; 3]], column: usize| Series {
         name,
         points: rows.iter().map(|row| (row[0], row[column])).collect(),
@@ -58,7 +58,7 @@ pub fn table(rounds: usize, svg: &str) -> Result<(), Fault> {
             &[series("library", &by_budget, 1), series("plain Rust", &by_budget, 2)],
         ),
     ]);
-    tools::disk::write_all(&[(svg.into(), drawn.into_bytes())])
+    std::fs::write(svg, drawn).map_err(|fault| format!("{}: {fault}", svg.display()))
 }
 
 /// Nanoseconds of a run by the library and by plain Rust, and its moves.

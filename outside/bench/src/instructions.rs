@@ -3,20 +3,18 @@
 use crate::measure::SIDES;
 use crate::workload::{family, FAMILIES};
 use std::process::Command;
-use tools::args::Fault;
 
 /// The runs of a family by one side, some times over.
-pub fn work(side: &str, name: &str, times: &str) -> Result<(), Fault> {
+pub fn work(side: &str, name: &str, times: usize) -> Result<(), String> {
     let (_, run) = SIDES.into_iter().find(|(other, _)| *other == side).ok_or(format!("no side '{side}'"))?;
     let mut workload = family(name).ok_or(format!("no family '{name}'"))?;
-    let times: usize = times.parse().map_err(|_| format!("'{times}' is not a count"))?;
     for _ in 0..times {
         (0..workload.runs()).for_each(|index| workload.run(run, index));
     }
     Ok(())
 }
 
-pub fn table() -> Result<(), Fault> {
+pub fn table() -> Result<(), String> {
     println!(
         "{:9} {:>14} {:>14}   {:>14} {:>8}   {:>5}",
         "family", "instructions", "plain", "a node", "plain", "ratio"
@@ -36,12 +34,12 @@ pub fn table() -> Result<(), Fault> {
 }
 
 /// Instructions of a family's runs: what doing them a second time adds.
-fn count(side: &str, name: &str) -> Result<f64, Fault> {
+fn count(side: &str, name: &str) -> Result<f64, String> {
     Ok(counted(side, name, "2")? - counted(side, name, "1")?)
 }
 
 /// Instructions of this program doing a family's runs so many times.
-fn counted(side: &str, name: &str, times: &str) -> Result<f64, Fault> {
+fn counted(side: &str, name: &str, times: &str) -> Result<f64, String> {
     let own = std::env::current_exe().map_err(|fault| format!("this program: {fault}"))?;
     let output = Command::new("valgrind")
         .args(["--tool=callgrind", "--callgrind-out-file=/dev/null"])

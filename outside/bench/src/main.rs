@@ -10,43 +10,71 @@ mod share;
 mod solve;
 mod workload;
 
+use clap::Parser;
+use std::path::PathBuf;
 use std::process::ExitCode;
 
-const USAGE: &str = "\
-bench runs [--rounds N]          moves a second and nanoseconds a node, beside plain Rust, by family
-bench picks [--rounds N]         nanoseconds a pick of each kind and set, beside plain Rust
-bench growth [--rounds N] [--svg FILE]
-                                 cost as the nodes and as the budget grow; a plot where asked for
-bench instructions               instructions of each family's runs, counted by valgrind
-bench share                      moves to a model by the share of words e that ask for the inverse
-bench solve [--seconds N]        time to a model beside z3's default and its local search
-bench work SIDE FAMILY TIMES     the runs of a family, TIMES times, by library or plain: for counting
-Ratios are plain Rust's time over the library's, from the fastest of N rounds in which the two take
-turns: 1.00 is equal, more is better.";
+/// Measure the proved library beside plain Rust and z3
+///
+/// Ratios are plain Rust's time over the library's, from the fastest of N rounds in which the two take
+/// turns: 1.00 is equal, more is better.
+#[derive(Parser)]
+#[command(name = "bench")]
+enum Line {
+    /// Moves a second and nanoseconds a node, beside plain Rust, by family
+    Runs(Rounds),
+    /// Nanoseconds a pick of each kind and set, beside plain Rust
+    Picks(Rounds),
+    /// Cost as the nodes and as the budget grow; a plot where asked for
+    Growth {
+        #[command(flatten)]
+        rounds: Rounds,
+        #[arg(long, value_name = "FILE")]
+        svg: Option<PathBuf>,
+    },
+    /// Instructions of each family's runs, counted by valgrind
+    Instructions,
+    /// Moves to a model by the share of words e that ask for the inverse
+    Share,
+    /// Time to a model beside z3's default and its local search
+    Solve {
+        /// The most that each may take
+        #[arg(long, default_value_t = 10)]
+        seconds: u64,
+    },
+    /// The runs of a family some times over, by library or plain: for counting
+    Work { side: String, family: String, times: usize },
+}
+
+#[derive(clap::Args)]
+struct Rounds {
+    #[arg(long, default_value_t = 60)]
+    rounds: usize,
+}
 
 fn main() -> ExitCode {
-    tools::args::main("bench", USAGE, |mut args| {
-        let command = args.command()?;
-        if command == "work" {
-            let [side, family, times] = args.rest(["SIDE", "FAMILY", "TIMES"])?;
-            return instructions::work(&side, &family, &times);
+    let line = Line::parse();
+    if walumpeh::raw::IS_STUB {
+        println!("the proved library is not linked: the slow model stands in for it");
+    }
+    match measure(&line) {
+        Ok(()) => ExitCode::SUCCESS,
+        Err(fault) => {
+            eprintln!("bench: {fault}");
+            ExitCode::FAILURE
         }
-        let rounds = args.value("--rounds", 60)?;
-        let seconds = args.value("--seconds", 10)?;
-        let svg: String = args.value("--svg", String::new())?;
-        let [] = args.rest([])?;
-        if walumpeh::raw::IS_STUB {
-            println!("the proved library is not linked: the slow model stands in for it");
-        }
-        match command.as_str() {
-            "runs" => runs::table(rounds),
-            "picks" => picks::table(rounds),
-            "growth" => growth::table(rounds, &svg)?,
-            "instructions" => instructions::table()?,
-            "share" => share::table(),
-            "solve" => solve::table(seconds)?,
-            other => return Err(format!("no benchmark '{other}'")),
-        }
-        Ok(())
-    })
+    }
+}
+
+fn measure(line: &Line) -> Result<(), String> {
+    match line {
+        Line::Runs(Rounds { rounds }) => runs::table(*rounds),
+        Line::Picks(Rounds { rounds }) => picks::table(*rounds),
+        Line::Growth { rounds, svg } => growth::table(rounds.rounds, svg.as_deref())?,
+        Line::Instructions => instructions::table()?,
+        Line::Share => share::table(),
+        Line::Solve { seconds } => solve::table(*seconds)?,
+        Line::Work { side, family, times } => instructions::work(side, family, *times)?,
+    }
+    Ok(())
 }

@@ -3,10 +3,11 @@
 use generate::families::{deep, frame, products, start};
 use generate::solved::Solved;
 use generate::tape::{drawn, Drawn};
+use generate::Rng;
 use model::run::Search;
 use model::{Outcome, Verdict};
 
-const SHARES: [usize; 7] = [0, 25, 50, 75, 90, 95, 100];
+const SHARES: [u64; 7] = [0, 25, 50, 75, 90, 95, 100];
 const RUNS: u64 = 20;
 const BUDGET: u16 = 3000;
 
@@ -30,7 +31,8 @@ pub fn table() {
             for seed in 0..RUNS {
                 let values = start(seed, &solved);
                 let search = Search::accept(&solved.problem.bytes(), &values).expect("a start that agrees");
-                let (_, answer) = drawn(&search, &values, BUDGET, Drawn::new(seed, share, usize::MAX));
+                let (_, answer) =
+                    drawn(&search, &values, BUDGET, Drawn::new(Rng::words(seed), share, usize::MAX));
                 found += u64::from(answer.outcome == Outcome::Settled(Verdict::Model));
                 moves += answer.moves;
             }

@@ -4,14 +4,14 @@
 use generate::families::{deep, frame, mixed, products, start};
 use generate::solved::Solved;
 use generate::tape::{drawn, Drawn};
+use generate::Rng;
 use model::run::Search;
 use std::io::Write;
 use std::process::{Command, Stdio};
 use std::time::{Duration, Instant};
-use tools::args::Fault;
-use tools::smt2::{nodes, roots, Variables};
+use text::smt2::{nodes, roots, Variables};
 
-const SHARE: usize = 95;
+const SHARE: u64 = 95;
 const ATTEMPTS: u64 = 20;
 
 fn problems() -> Vec<(&'static str, Solved)> {
@@ -30,7 +30,7 @@ fn problems() -> Vec<(&'static str, Solved)> {
     ]
 }
 
-pub fn table(seconds: u64) -> Result<(), Fault> {
+pub fn table(seconds: u64) -> Result<(), String> {
     println!("milliseconds to a model, at most {seconds} s each; the library's are of its runs alone, tapes drawn beforehand, z3's include its start; up to {ATTEMPTS} from different seeds");
     println!("{:22} {:>12} {:>9}   {:>12}   {:>12}", "problem", "library", "moves", "z3", "z3 qfbv-sls");
     for (name, solved) in problems() {
@@ -64,12 +64,13 @@ fn by_library(solved: &Solved, limit: Duration) -> Option<(Duration, u64)> {
     for seed in 0..ATTEMPTS {
         let mut values = start(seed, solved);
         let search = Search::accept(&bytes, &values).expect("a start that agrees");
-        let (tape, _) = drawn(&search, &values, 10_000, Drawn::new(seed, SHARE, usize::MAX));
+        let (tape, _) = drawn(&search, &values, 10_000, Drawn::new(Rng::words(seed), SHARE, usize::MAX));
         let run = Instant::now();
         let answer = walumpeh::run(&bytes, &mut values, &tape, 10_000);
         time += run.elapsed();
+        let answer = answer.expect("a start that agrees");
         moves += answer.moves;
-        if answer.outcome == walumpeh::Outcome::Settled(walumpeh::Verdict::Model) {
+        if answer.verdict == walumpeh::Verdict::Model {
             return Some((time, moves));
         }
         if begun.elapsed() > limit {
@@ -80,7 +81,7 @@ fn by_library(solved: &Solved, limit: Duration) -> Option<(Duration, u64)> {
 }
 
 /// The time of z3 to answer sat, its start included.
-fn by_z3(text: &str, seconds: u64) -> Result<Option<Duration>, Fault> {
+fn by_z3(text: &str, seconds: u64) -> Result<Option<Duration>, String> {
     let program = std::env::var("Z3").unwrap_or("z3".into());
     let begun = Instant::now();
     let mut solver = Command::new(&program)

@@ -8,10 +8,12 @@
 //! | `refused` | picks whose arguments are not those of a node                                 |
 //! | `runs`    | checks and whole runs, with every verdict and refusal counted                 |
 //! | `program` | what the program `tvrun` prints, whole                                        |
+//! | `parts`   | work in parts, on all of the machine's processors                             |
 //!
 //! A difference is an `Err` with a text that shows it.
 
 pub mod narrow;
+pub mod parts;
 pub mod program;
 pub mod refused;
 pub mod runs;

@@ -1,73 +1,107 @@
 //! The comparison's command line.
 
-use compare::narrow::Extent;
-use compare::{narrow, program, refused, runs, wide, Library, Plain, Subject};
+use clap::{Parser, ValueEnum};
+use compare::narrow::{self, Extent};
+use compare::runs::{self, Counts};
+use compare::{program, refused, wide, Library, Plain, Subject};
 use model::{Kind, Verdict};
-use std::path::Path;
+use std::path::{Path, PathBuf};
 use std::process::ExitCode;
 use std::time::Instant;
-use tools::args::{Args, Fault};
 
-const USAGE: &str = "\
-compare picks [--subject library|plain] [--seed N] [--spots N] [--cases N]
-    picks and essential tests of every kind and position: at 1 to 4 bits over all operands, values,
-    targets and proposals (of an operator with more than N spots, N by chance), against the
-    definitions; and N cases of each kind and position at 33 to 64 bits
-compare runs [--subject library|plain] [--seed N] [--cases N] [--out FOLDER]
-    checks and whole runs against the model; the first difference is shown, and its files are
-    written to FOLDER (differences)
-compare program PROGRAM [--seed N] [--cases N]
-    the whole output of a program that does as tvrun does, run N times in a folder of its own
-The status is not 0 where anything differs or a verdict or refusal is never reached.";
-
-fn main() -> ExitCode {
-    tools::args::main("compare", USAGE, |mut args| {
-        let command = args.command()?;
-        let seed = args.value("--seed", 1)?;
-        println!("seed {seed}");
-        if command == "program" {
-            return program(args, seed);
-        }
-        let subject: String = args.value("--subject", "library".into())?;
-        match subject.as_str() {
-            "library" => {
-                if walumpeh::raw::IS_STUB {
-                    println!("the proved library is not linked: the model stands in for it");
-                }
-                of_subject(&Library, &command, args, seed)
-            }
-            "plain" => of_subject(&Plain, &command, args, seed),
-            other => Err(format!("--subject: no '{other}'")),
-        }
-    })
+/// Hold the proved library, or the search in plain Rust, against the model
+///
+/// The status is not 0 where anything differs or a verdict or refusal is never reached.
+#[derive(Parser)]
+#[command(name = "compare")]
+struct Line {
+    #[command(subcommand)]
+    what: What,
+    /// What is compared with the model
+    #[arg(long, global = true, value_enum, default_value_t = Side::Library)]
+    subject: Side,
+    /// The same seed gives the same cases on every machine
+    #[arg(long, global = true, default_value_t = 1)]
+    seed: u64,
 }
 
-fn of_subject(subject: &impl Subject, command: &str, args: Args, seed: u64) -> Result<(), Fault> {
-    match command {
-        "picks" => picks(subject, args, seed),
-        "runs" => whole_runs(subject, args, seed),
-        other => Err(format!("no command '{other}'")),
+#[derive(Clone, Copy, ValueEnum)]
+enum Side {
+    Library,
+    Plain,
+}
+
+#[derive(Parser)]
+enum What {
+    /// Picks and essential tests of every kind and position
+    ///
+    /// At 1 to 4 bits over all operands, values, targets and proposals, against the definitions; and at
+    /// random at 33 to 64 bits.
+    Picks {
+        /// Of an operator with more spots than this, so many by chance
+        #[arg(long, default_value_t = 262_144)]
+        spots: u64,
+        /// So many cases of each kind and position at 33 to 64 bits
+        #[arg(long, default_value_t = 20_000)]
+        cases: u64,
+    },
+    /// Checks and whole runs; the first difference is shown
+    Runs {
+        #[arg(long, default_value_t = 300_000)]
+        cases: u64,
+        /// Where the files of a difference are written to
+        #[arg(long, value_name = "FOLDER", default_value = "differences")]
+        out: PathBuf,
+    },
+    /// The whole output of a program that does as tvrun does, run in a folder of its own
+    Program {
+        program: PathBuf,
+        #[arg(long, default_value_t = 1000)]
+        cases: u64,
+    },
+}
+
+fn main() -> ExitCode {
+    let line = Line::parse();
+    println!("seed {}", line.seed);
+    let compared = match line.subject {
+        Side::Library => {
+            if walumpeh::raw::IS_STUB {
+                println!("the proved library is not linked: the model stands in for it");
+            }
+            compare(&Library, &line)
+        }
+        Side::Plain => compare(&Plain, &line),
+    };
+    match compared {
+        Ok(()) => ExitCode::SUCCESS,
+        Err(fault) => {
+            eprintln!("compare: {fault}");
+            ExitCode::FAILURE
+        }
     }
 }
 
-fn program(mut args: Args, seed: u64) -> Result<(), Fault> {
-    let cases = args.value("--cases", 1000)?;
-    let [program] = args.rest(["PROGRAM"])?;
+fn compare(subject: &impl Subject, line: &Line) -> Result<(), String> {
+    match &line.what {
+        What::Picks { spots, cases } => picks(subject, line.seed, *spots, *cases),
+        What::Runs { cases, out } => whole_runs(subject, line.seed, *cases, out),
+        What::Program { program, cases } => whole_outputs(program, line.seed, *cases),
+    }
+}
+
+fn whole_outputs(program: &Path, seed: u64, cases: u64) -> Result<(), String> {
     let start = Instant::now();
-    let program = Path::new(&program).canonicalize().map_err(|fault| format!("{program}: {fault}"))?;
+    let program = program.canonicalize().map_err(|fault| format!("{}: {fault}", program.display()))?;
     let folder = std::env::temp_dir().join(format!("compare-program-{}", std::process::id()));
     let compared = program::compare(&program, &folder, seed, cases);
     let verdicts = compared.map_err(|d| format!("difference: {d}its files are in {}", folder.display()))?;
     std::fs::remove_dir_all(&folder).map_err(|fault| format!("{}: {fault}", folder.display()))?;
-    let seconds = start.elapsed().as_secs_f64();
-    println!("program: {cases} outputs, {verdicts} with a verdict, no difference, {seconds:.1} s");
+    println!("program: {cases} outputs, {verdicts} with a verdict, no difference, {}", seconds(start));
     Ok(())
 }
 
-fn picks(subject: &impl Subject, mut args: Args, seed: u64) -> Result<(), Fault> {
-    let spots = args.value("--spots", 262_144)?;
-    let cases = args.value("--cases", 20_000)?;
-    let [] = args.rest([])?;
+fn picks(subject: &impl Subject, seed: u64, spots: u64, cases: u64) -> Result<(), String> {
     let start = Instant::now();
     let extent = Extent { operand: 4, node: 6, spots, seed };
     let counts = narrow::compare(subject, extent).map_err(|d| format!("difference: {d}"))?;
@@ -83,23 +117,19 @@ fn picks(subject: &impl Subject, mut args: Args, seed: u64) -> Result<(), Fault>
         );
     }
     let picks: u64 = counts.iter().map(|count| count.picks).sum();
-    println!("narrow: {picks} picks, no difference, {:.1} s", start.elapsed().as_secs_f64());
+    println!("narrow: {picks} picks, no difference, {}", seconds(start));
     let start = Instant::now();
     let found = wide::compare(subject, cases, seed).map_err(|d| format!("difference: {d}"))?;
     println!(
-        "wide: {cases} cases of each kind and position, {found} values picked, no difference, {:.1} s",
-        start.elapsed().as_secs_f64()
+        "wide: {cases} cases of each kind and position, {found} values picked, no difference, {}",
+        seconds(start)
     );
     let calls = refused::compare(subject, 500, seed).map_err(|d| format!("difference: {d}"))?;
     println!("refused: {calls} calls, none let through");
     Ok(())
 }
 
-fn whole_runs(subject: &impl Subject, mut args: Args, seed: u64) -> Result<(), Fault> {
-    let cases = args.value("--cases", 300_000)?;
-    let out: String = args.value("--out", "differences".into())?;
-    let [] = args.rest([])?;
-    let out = Path::new(&out);
+fn whole_runs(subject: &impl Subject, seed: u64, cases: u64, out: &Path) -> Result<(), String> {
     let start = Instant::now();
     let counts = runs::compare(subject, seed, cases).map_err(|difference| {
         let written = match runs::write_files(&difference.case, out) {
@@ -108,6 +138,21 @@ fn whole_runs(subject: &impl Subject, mut args: Args, seed: u64) -> Result<(), F
         };
         format!("difference at case {} of seed {seed}: {}; {written}", difference.index, difference.what)
     })?;
+    show(&counts);
+    println!(
+        "{} cases, {} moves, {} steps, no difference, {}",
+        counts.cases,
+        counts.moves,
+        counts.steps,
+        seconds(start)
+    );
+    match counts.missing().as_slice() {
+        [] => Ok(()),
+        missing => Err(format!("never reached: {}", missing.join(", "))),
+    }
+}
+
+fn show(counts: &Counts) {
     for verdict in Verdict::ALL {
         println!("verdict {:7} {:>8}", verdict.name(), counts.verdicts[verdict as usize]);
     }
@@ -120,30 +165,16 @@ fn whole_runs(subject: &impl Subject, mut args: Args, seed: u64) -> Result<(), F
     );
     for kind in Kind::ALL.into_iter().skip(2) {
         let row = counts.followed[kind as usize];
-        let shown = |set: usize| {
-            (0..3)
-                .map(|position| {
-                    if position < kind.operands() {
-                        format!(" {:>9}", row[position][set])
-                    } else {
-                        " ".repeat(10)
-                    }
-                })
-                .collect::<String>()
+        let shown = |set: usize| -> String {
+            let followed = row[..kind.operands()].iter().map(|sets| format!(" {:>9}", sets[set]));
+            format!("{:30}", followed.collect::<String>())
         };
         println!("{:8} {}  {}   {:>7}", kind.name(), shown(0), shown(1), counts.blocked[kind as usize]);
     }
     println!("models promised by demand 3, and found within its bounds: {}", counts.promised);
     println!("checks of damaged copies: {}, refused {}", counts.checks, counts.checks_refused);
-    println!(
-        "{} cases, {} moves, {} steps, no difference, {:.1} s",
-        counts.cases,
-        counts.moves,
-        counts.steps,
-        start.elapsed().as_secs_f64()
-    );
-    match counts.missing().as_slice() {
-        [] => Ok(()),
-        missing => Err(format!("never reached: {}", missing.join(", "))),
-    }
+}
+
+fn seconds(since: Instant) -> String {
+    format!("{:.1} s", since.elapsed().as_secs_f64())
 }

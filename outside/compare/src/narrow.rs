@@ -5,6 +5,7 @@
 //! free operand by the others' values and the target, the consistent set by the target, and the
 //! essential test by the value, the others' pairs and the target.
 
+use crate::parts;
 use crate::subject::{Asked, Subject};
 use generate::Rng;
 use model::operator::all_operators;
@@ -33,11 +34,15 @@ pub struct Count {
 
 /// Compares all operators; gives the counts by kind number.
 pub fn compare(subject: &impl Subject, extent: Extent) -> Result<[Count; 14], String> {
+    let operators: Vec<Operator> = all_operators(extent.operand, extent.node);
+    let compared = parts::each(&operators, |operator| compare_operator(subject, operator, extent))?;
     let mut counts = [Count::default(); 14];
-    for operator in all_operators(extent.operand, extent.node) {
+    for (operator, one) in operators.iter().zip(compared) {
         let count = &mut counts[operator.kind.number() as usize];
         count.operators += 1;
-        compare_operator(subject, &operator, extent, count)?;
+        count.spots += one.spots;
+        count.picks += one.picks;
+        count.essentials += one.essentials;
     }
     Ok(counts)
 }
@@ -65,12 +70,8 @@ fn pairs_of(width: u32) -> Vec<Pair> {
     }
 }
 
-fn compare_operator(
-    subject: &impl Subject,
-    operator: &Operator,
-    extent: Extent,
-    count: &mut Count,
-) -> Result<(), String> {
+fn compare_operator(subject: &impl Subject, operator: &Operator, extent: Extent) -> Result<Count, String> {
+    let mut count = Count::default();
     let choices = operator.widths.map(operands);
     let tables: Vec<Table> =
         (0..operator.kind.operands()).map(|position| Table::new(operator, position)).collect();
@@ -85,13 +86,14 @@ fn compare_operator(
             operand
         });
         count.spots += 1;
-        compare_spot(subject, operator, chosen, &tables, count)
+        compare_spot(subject, operator, chosen, &tables, &mut count)
     };
     if total <= extent.spots {
-        (0..total).try_for_each(&mut compare)
+        (0..total).try_for_each(&mut compare)?;
     } else {
-        (0..extent.spots).try_for_each(|_| compare(rng.word() % total))
+        (0..extent.spots).try_for_each(|_| compare(rng.word() % total))?;
     }
+    Ok(count)
 }
 
 fn compare_spot(

@@ -1,12 +1,14 @@
 //! Checks and whole runs, of all sorts of problems, starts and tapes, with every verdict and every
 //! refusal counted; and demand 3: tapes built from a known solution bring *model* within its bounds.
 
+use crate::parts;
 use crate::subject::{Model, Subject};
 use generate::case::{case, Case};
 use generate::{damage, Rng};
 use model::files::{bytes_of, tape_file};
 use model::run::{run_seen, Step};
 use model::{Kind, Verdict};
+use std::ops::Range;
 use std::path::Path;
 
 /// What was reached.
@@ -46,6 +48,27 @@ impl Counts {
         verdicts.chain(refusals).chain(promised).chain(steps).collect()
     }
 
+    fn add(&mut self, other: &Counts) {
+        let add = |to: &mut [u64], from: &[u64]| to.iter_mut().zip(from).for_each(|(to, from)| *to += from);
+        add(&mut self.verdicts, &other.verdicts);
+        add(&mut self.refusals, &other.refusals);
+        add(&mut self.blocked, &other.blocked);
+        add(
+            self.followed.as_flattened_mut().as_flattened_mut(),
+            other.followed.as_flattened().as_flattened(),
+        );
+        for (to, from) in [
+            (&mut self.cases, other.cases),
+            (&mut self.promised, other.promised),
+            (&mut self.moves, other.moves),
+            (&mut self.steps, other.steps),
+            (&mut self.checks, other.checks),
+            (&mut self.checks_refused, other.checks_refused),
+        ] {
+            *to += from;
+        }
+    }
+
     fn see(&mut self, step: Step) {
         match step.followed {
             None => self.blocked[step.kind as usize] += 1,
@@ -62,10 +85,23 @@ pub struct Difference {
     pub case: Case,
 }
 
+/// How many cases are compared in one go.
+const PART: u64 = 500;
+
 /// Compares cases 0 to `cases` - 1 under a seed, up to the first difference.
 pub fn compare(subject: &impl Subject, seed: u64, cases: u64) -> Result<Counts, Box<Difference>> {
+    let parts: Vec<Range<u64>> =
+        (0..cases.div_ceil(PART)).map(|k| k * PART..cases.min((k + 1) * PART)).collect();
     let mut counts = Counts::default();
-    for index in 0..cases {
+    for one in parts::each(&parts, |part| compare_part(subject, seed, part.clone()))? {
+        counts.add(&one);
+    }
+    Ok(counts)
+}
+
+fn compare_part(subject: &impl Subject, seed: u64, part: Range<u64>) -> Result<Counts, Box<Difference>> {
+    let mut counts = Counts::default();
+    for index in part {
         let case = case(seed, index);
         if let Err(what) = compare_case(subject, &case, &mut counts) {
             return Err(Box::new(Difference { index, what, case }));

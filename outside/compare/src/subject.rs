@@ -2,7 +2,7 @@
 
 use model::{Set, Spot};
 
-pub trait Subject {
+pub trait Subject: Sync {
     /// 0, or a refusal's number + 256 × its place.
     fn check(&self, problem: &[u8]) -> u32;
     /// 0 to 3 for a verdict, 16 + a refusal's number; `out` takes moves, steps, words, place.

@@ -1,23 +1,24 @@
 //! Picks and essential tests at 33 to 64 bits, at random: equal to the model's, and checked beside that
 //! by membership, by witnesses and by neighbours that must not be members.
 
+use crate::parts;
 use crate::subject::{Asked, Model, Subject};
 use generate::{spots, Rng};
 use model::{definition, exact, ones, Kind, Pair, Set, Spot};
 
 /// Compares `cases` spots of each kind and position; gives how many picks found a value.
 pub fn compare(subject: &impl Subject, cases: u64, seed: u64) -> Result<u64, String> {
-    let mut found = 0;
-    for kind in Kind::ALL.into_iter().skip(2) {
-        for position in 0..kind.operands() {
-            for case in 0..cases {
-                let mut rng = Rng::of_case(seed, case << 8 | u64::from(kind.number()) << 2 | position as u64);
-                found += compare_case(subject, &mut rng, kind, position)
-                    .map_err(|difference| format!("case {case} of {}: {difference}", kind.name()))?;
-            }
-        }
-    }
-    Ok(found)
+    let with_positions = |kind: Kind| (0..kind.operands()).map(move |position| (kind, position));
+    let places: Vec<(Kind, usize)> = Kind::ALL.into_iter().skip(2).flat_map(with_positions).collect();
+    let found = parts::each(&places, |&(kind, position)| {
+        let found = (0..cases).map(|case| {
+            let mut rng = Rng::of_case(seed, case << 8 | u64::from(kind.number()) << 2 | position as u64);
+            compare_case(subject, &mut rng, kind, position)
+                .map_err(|difference| format!("case {case} of {}: {difference}", kind.name()))
+        });
+        found.sum::<Result<u64, String>>()
+    })?;
+    Ok(found.into_iter().sum())
 }
 
 fn compare_case(subject: &impl Subject, rng: &mut Rng, kind: Kind, position: usize) -> Result<u64, String> {

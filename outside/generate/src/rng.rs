@@ -12,6 +12,12 @@ impl Rng {
         Rng { state: seed }
     }
 
+    /// The words of a seed, one a call.
+    pub fn words(seed: u64) -> impl FnMut() -> u64 {
+        let mut rng = Rng::new(seed);
+        move || rng.word()
+    }
+
     /// A generator of its own for case number `index` under a seed, so that each case can be made again alone.
     pub fn of_case(seed: u64, index: u64) -> Rng {
         let mut rng = Rng::new(seed);

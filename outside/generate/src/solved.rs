@@ -67,12 +67,6 @@ pub fn values(rng: &mut Rng, problem: &Problem) -> Vec<u64> {
     problem.nodes.iter().map(value).collect()
 }
 
-/// A value that agrees for each variable, and 0 elsewhere.
-pub fn start_values(rng: &mut Rng, problem: &Problem) -> Vec<u64> {
-    let value = |node: &model::Node| if node.kind == Kind::Variable { rng.member(node.pair) } else { 0 };
-    problem.nodes.iter().map(value).collect()
-}
-
 /// A start that differs from the solution in a share of the variables, from few to all.
 pub fn start(rng: &mut Rng, solved: &Solved) -> Vec<u64> {
     let mut start = values(rng, &solved.problem);

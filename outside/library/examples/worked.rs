@@ -1,7 +1,5 @@
 //! Solves the worked example, x · 6 = 2 on 4 bits, and prints what tvrun prints for it.
 
-use walumpeh::{run, Outcome};
-
 /// A node's 24 bytes: kind, width, operands a and b, lo and hi.
 fn node(kind: u8, width: u8, [a, b]: [u16; 2], lo: u64, hi: u64) -> Vec<u8> {
     let fields = [a, b, 0].map(u16::to_le_bytes);
@@ -20,12 +18,11 @@ fn main() {
     ]
     .concat();
     let mut values = [0; 5];
-    let answer = run(&problem, &mut values, &[0, 0, 9, 0, 4], 1);
-    match answer.outcome {
-        Outcome::Refused(refusal) => println!("refused {} at {}", refusal.number, refusal.place),
-        Outcome::Settled(verdict) => {
-            let name = format!("{verdict:?}").to_lowercase();
-            println!("verdict {name} moves {} steps {} words {}", answer.moves, answer.steps, answer.words);
+    match walumpeh::run(&problem, &mut values, &[0, 0, 9, 0, 4], 1) {
+        Err(refusal) => println!("{refusal}"),
+        Ok(answer) => {
+            let (name, moves) = (answer.verdict.name(), answer.moves);
+            println!("verdict {name} moves {moves} steps {} words {}", answer.steps, answer.words);
             println!("0 {}", values[0]);
         }
     }

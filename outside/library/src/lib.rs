@@ -1,17 +1,13 @@
-//! The proved library in safe Rust: the problem check and the run, with answers as enums, and the
-//! picks of a single node.
+//! The proved library in safe Rust: the problem check and the run, and the picks of a single node.
 //!
-//! Every call takes whole slices and answers for every input; nothing has to hold beforehand. The
-//! calls behind them, with the library's own numbers, are in `raw`.
+//! Every call takes whole slices and answers for every input; nothing has to hold beforehand. Calls
+//! share nothing and may run on several threads. The calls behind them, with the library's own numbers,
+//! are in `raw`.
 
 pub mod raw;
+mod refusal;
 
-/// A refusal's number, 1 to 15, and its place: a node's id, a root's position, or 0.
-#[derive(Clone, Copy, Debug, PartialEq, Eq)]
-pub struct Refusal {
-    pub number: u8,
-    pub place: u32,
-}
+pub use refusal::{Place, Refusal};
 
 #[derive(Clone, Copy, Debug, PartialEq, Eq)]
 pub enum Verdict {
@@ -25,43 +21,49 @@ pub enum Verdict {
     Closed,
 }
 
-#[derive(Clone, Copy, Debug, PartialEq, Eq)]
-pub enum Outcome {
-    Refused(Refusal),
-    Settled(Verdict),
+impl Verdict {
+    /// The name that `tvrun` prints.
+    pub fn name(self) -> &'static str {
+        match self {
+            Verdict::Model => "model",
+            Verdict::Spent => "spent",
+            Verdict::Ended => "ended",
+            Verdict::Closed => "closed",
+        }
+    }
 }
 
 /// What a run answers beside the values.
 #[derive(Clone, Copy, Debug, PartialEq, Eq)]
 pub struct Answer {
+    pub verdict: Verdict,
     pub moves: u64,
     pub steps: u64,
     pub words: u64,
-    pub outcome: Outcome,
 }
 
 /// Whether a problem's bytes are accepted.
 pub fn check(problem: &[u8]) -> Result<(), Refusal> {
     match raw::check(problem) {
         0 => Ok(()),
-        refused => Err(Refusal { number: refused as u8, place: refused >> 8 }),
+        refused => Err(Refusal { number: refused as u8, place: u64::from(refused >> 8) }),
     }
 }
 
 /// A whole run. Only the variables' places of `values` are read; after a verdict the first N hold
 /// every node's value, and after a refusal none is changed.
-pub fn run(problem: &[u8], values: &mut [u64], tape: &[u64], budget: u16) -> Answer {
+pub fn run(problem: &[u8], values: &mut [u64], tape: &[u64], budget: u16) -> Result<Answer, Refusal> {
     let mut out = [0; 4];
     let number = raw::run(problem, values, tape, budget, &mut out);
     let [moves, steps, words, place] = out;
-    let outcome = match number {
-        0 => Outcome::Settled(Verdict::Model),
-        1 => Outcome::Settled(Verdict::Spent),
-        2 => Outcome::Settled(Verdict::Ended),
-        3 => Outcome::Settled(Verdict::Closed),
-        refused => Outcome::Refused(Refusal { number: (refused - 16) as u8, place: place as u32 }),
+    let verdict = match number {
+        0 => Verdict::Model,
+        1 => Verdict::Spent,
+        2 => Verdict::Ended,
+        3 => Verdict::Closed,
+        refused => return Err(Refusal { number: (refused - 16) as u8, place }),
     };
-    Answer { moves, steps, words, outcome }
+    Ok(Answer { verdict, moves, steps, words })
 }
 
 /// The set that a value is picked from.

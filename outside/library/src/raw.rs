@@ -1,6 +1,6 @@
 //! The exported calls with the library's own numbers, on slices.
 
-#[cfg(stub)]
+#[cfg(feature = "stub")]
 extern crate stub as _;
 
 mod calls {
@@ -43,7 +43,7 @@ mod calls {
 }
 
 /// Whether the model stands in for the proved library.
-pub const IS_STUB: bool = cfg!(stub);
+pub const IS_STUB: bool = cfg!(feature = "stub");
 
 /// 0 where the problem is accepted, else the refusal's number + 256 × its place.
 pub fn check(problem: &[u8]) -> u32 {

@@ -55,7 +55,7 @@ impl Kind {
         }
     }
 
-    /// The name that the tools read and print.
+    /// The name that the text form has for it.
     pub fn name(self) -> &'static str {
         match self {
             Variable => "var",

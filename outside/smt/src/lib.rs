@@ -15,12 +15,9 @@ pub mod solver;
 pub mod terms;
 pub mod unsolved;
 
-use walumpeh::{Answer, Outcome, Verdict};
+use walumpeh::{Answer, Refusal, Verdict};
 
 /// The verdict of a run that must not be refused.
-fn verdict(answer: Answer) -> Result<Verdict, String> {
-    match answer.outcome {
-        Outcome::Settled(verdict) => Ok(verdict),
-        Outcome::Refused(refusal) => Err(format!("refused {} at {}", refusal.number, refusal.place)),
-    }
+fn verdict(answer: Result<Answer, Refusal>) -> Result<Verdict, String> {
+    answer.map(|answer| answer.verdict).map_err(|refusal| refusal.to_string())
 }

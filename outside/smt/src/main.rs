@@ -1,49 +1,69 @@
 //! The comparison with z3: its command line.
 
+use clap::Parser;
 use model::Kind;
 use smt::{models, terms, unsolved};
 use std::process::ExitCode;
 use std::time::Instant;
 
-const USAGE: &str = "\
-smt-compare [--seed N] [--terms N] [--models N] [--unsolved N]
-    compares the proved library with z3 (the variable Z3 may name the program): all nodes' values of
-    N random problems; the models found for N problems; and N small problems, of which those that z3
-    calls unsatisfiable must not bring a model
-    The status is not 0 where anything differs.";
+/// Compare the proved library with z3 (the variable Z3 may name the program)
+///
+/// All nodes' values of random problems; the models found for problems with a solution; and small
+/// problems, of which those that z3 calls unsatisfiable must not bring a model. The status is not 0 where
+/// anything differs.
+#[derive(Parser)]
+#[command(name = "smt-compare")]
+struct Line {
+    #[arg(long, default_value_t = 1)]
+    seed: u64,
+    /// How many random problems
+    #[arg(long, default_value_t = 3000)]
+    terms: u64,
+    /// How many problems with a solution
+    #[arg(long, default_value_t = 3000)]
+    models: u64,
+    /// How many small problems
+    #[arg(long, default_value_t = 3000)]
+    unsolved: u64,
+}
 
 fn main() -> ExitCode {
-    tools::args::main("smt-compare", USAGE, |mut args| {
-        let seed = args.value("--seed", 1)?;
-        let (problems, searched, small) =
-            (args.value("--terms", 3000)?, args.value("--models", 3000)?, args.value("--unsolved", 3000)?);
-        let [] = args.rest([])?;
-        println!("seed {seed}");
-        if walumpeh::raw::IS_STUB {
-            println!("the proved library is not linked: the model stands in for it");
+    match compare(&Line::parse()) {
+        Ok(()) => ExitCode::SUCCESS,
+        Err(fault) => {
+            eprintln!("smt-compare: {fault}");
+            ExitCode::FAILURE
         }
-        let start = Instant::now();
-        let counts = terms::compare(problems, seed).map_err(|d| format!("difference: {d}"))?;
-        let shown: Vec<String> =
-            Kind::ALL.iter().zip(counts).map(|(kind, count)| format!("{} {count}", kind.name())).collect();
-        println!(
-            "nodes whose value z3 confirmed: {} ({}), {:.1} s",
-            counts.iter().sum::<u64>(),
-            shown.join(", "),
-            start.elapsed().as_secs_f64()
-        );
-        let start = Instant::now();
-        let confirmed = models::compare(searched, seed).map_err(|d| format!("difference: {d}"))?;
-        println!(
-            "models that z3 confirmed: {confirmed} of {searched} problems, {:.1} s",
-            start.elapsed().as_secs_f64()
-        );
-        let start = Instant::now();
-        let c = unsolved::compare(small, 8, seed).map_err(|d| format!("difference: {d}"))?;
-        println!("small problems: {} unsatisfiable, none brought a model ({} closed); {} satisfiable, {} brought one; {} unknown, {:.1} s", c.unsatisfiable, c.closed, c.satisfiable, c.found, c.unknown, start.elapsed().as_secs_f64());
-        if counts.contains(&0) || confirmed == 0 || c.closed == 0 || c.unsatisfiable == c.closed {
-            return Err("something was never reached".into());
-        }
-        Ok(())
-    })
+    }
+}
+
+fn compare(line: &Line) -> Result<(), String> {
+    println!("seed {}", line.seed);
+    if walumpeh::raw::IS_STUB {
+        println!("the proved library is not linked: the model stands in for it");
+    }
+    let difference = |d: String| format!("difference: {d}");
+    let start = Instant::now();
+    let counts = terms::compare(line.terms, line.seed).map_err(difference)?;
+    let shown: Vec<String> =
+        Kind::ALL.iter().zip(counts).map(|(kind, count)| format!("{} {count}", kind.name())).collect();
+    let (all, kinds) = (counts.iter().sum::<u64>(), shown.join(", "));
+    println!("nodes whose value z3 confirmed: {all} ({kinds}), {}", seconds(start));
+    let start = Instant::now();
+    let confirmed = models::compare(line.models, line.seed).map_err(difference)?;
+    println!("models that z3 confirmed: {confirmed} of {} problems, {}", line.models, seconds(start));
+    let start = Instant::now();
+    let c = unsolved::compare(line.unsolved, 8, line.seed).map_err(difference)?;
+    println!(
+        "small problems: {} unsatisfiable, none brought a model ({} closed); {} satisfiable, {} brought one; {} unknown, {}",
+        c.unsatisfiable, c.closed, c.satisfiable, c.found, c.unknown, seconds(start)
+    );
+    if counts.contains(&0) || confirmed == 0 || c.closed == 0 || c.unsatisfiable == c.closed {
+        return Err("something was never reached".into());
+    }
+    Ok(())
+}
+
+fn seconds(since: Instant) -> String {
+    format!("{:.1} s", since.elapsed().as_secs_f64())
 }

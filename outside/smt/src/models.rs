@@ -3,7 +3,7 @@
 use crate::{solver, verdict};
 use generate::solved::{self, Solved};
 use generate::{families, random, Rng};
-use tools::smt2::{nodes, pin, roots, Variables};
+use text::smt2::{nodes, pin, roots, Variables};
 use walumpeh::Verdict;
 
 /// Of `problems` problems with a solution: how many brought a model, all of them confirmed by z3.

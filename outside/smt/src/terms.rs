@@ -3,7 +3,7 @@
 use crate::{solver, verdict};
 use generate::{random, solved, Rng};
 use model::{Kind, Problem};
-use tools::smt2::{nodes, values, Variables};
+use text::smt2::{nodes, values, Variables};
 
 /// How many nodes of each kind agreed.
 pub type Counts = [u64; 14];

@@ -4,7 +4,7 @@
 use crate::{solver, verdict};
 use generate::{random, solved, Builder, Rng};
 use model::{pairs, Problem};
-use tools::smt2::{nodes, roots, Variables};
+use text::smt2::{nodes, roots, Variables};
 use walumpeh::Verdict;
 
 #[derive(Clone, Copy, Debug, Default)]

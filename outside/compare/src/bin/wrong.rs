@@ -2,13 +2,21 @@
 //! another one. The prover builds nothing that is wrong, so the compiled code is changed instead. The
 //! script `caught` then shows that the comparison finds each.
 
-use std::path::Path;
-use tools::args::Fault;
+use clap::Parser;
+use std::ops::Range;
+use std::path::{Path, PathBuf};
+use std::process::ExitCode;
 
-const USAGE: &str = "\
-wrong ARCHIVE FOLDER
-    writes into FOLDER a copy of the library's archive for each operator that is changed in the
-    compiled evaluation: a below b to a at most b, xor to or";
+/// Write a copy of the library's archive for each operator that is changed in the compiled evaluation
+///
+/// a below b to a at most b, xor to or.
+#[derive(Parser)]
+#[command(name = "wrong")]
+struct Line {
+    archive: PathBuf,
+    /// Where the copies are written to
+    folder: PathBuf,
+}
 
 /// An operator's instruction: what its first byte may be, its second, and the byte that takes its place.
 struct Change {
@@ -25,28 +33,34 @@ const CHANGES: [Change; 3] = [
     Change { name: "xor-as-or", first: 0x48..=0x4f, second: 0x33, wrong: 0x0b },
 ];
 
-fn main() -> std::process::ExitCode {
-    tools::args::main("wrong", USAGE, |args| {
-        let [archive, folder] = args.rest(["ARCHIVE", "FOLDER"])?;
-        let bytes = std::fs::read(&archive).map_err(|fault| format!("{archive}: {fault}"))?;
-        let code = evaluation(&bytes).ok_or(format!("{archive}: no section has the evaluation's code"))?;
-        std::fs::create_dir_all(&folder).map_err(|fault| format!("{folder}: {fault}"))?;
-        let written = CHANGES.iter().map(|change| write(&bytes, &code, change, Path::new(&folder)));
-        let written = written.collect::<Result<Vec<bool>, Fault>>()?;
-        match written.iter().filter(|&&is| is).count() {
-            0 => Err(format!("{archive}: the evaluation has none of the instructions that are changed")),
-            _ => Ok(()),
+fn main() -> ExitCode {
+    let line = Line::parse();
+    match wrong_builds(&line.archive, &line.folder) {
+        Ok(0) => {
+            eprintln!("wrong: the evaluation has none of the instructions that are changed");
+            ExitCode::FAILURE
         }
-    })
+        Ok(_) => ExitCode::SUCCESS,
+        Err(fault) => {
+            eprintln!("wrong: {fault}");
+            ExitCode::FAILURE
+        }
+    }
+}
+
+/// Writes the copies; gives how many there are.
+fn wrong_builds(archive: &Path, folder: &Path) -> Result<usize, String> {
+    let at = |path: &Path, fault: std::io::Error| format!("{}: {fault}", path.display());
+    let bytes = std::fs::read(archive).map_err(|fault| at(archive, fault))?;
+    let code =
+        evaluation(&bytes).ok_or(format!("{}: no section has the evaluation's code", archive.display()))?;
+    std::fs::create_dir_all(folder).map_err(|fault| at(folder, fault))?;
+    let written = CHANGES.iter().map(|change| write(&bytes, &code, change, folder));
+    Ok(written.collect::<Result<Vec<bool>, String>>()?.into_iter().filter(|&is| is).count())
 }
 
 /// Writes the archive with a change at its first place in the code, if it has one.
-fn write(
-    bytes: &[u8],
-    code: &[std::ops::Range<usize>],
-    change: &Change,
-    folder: &Path,
-) -> Result<bool, Fault> {
+fn write(bytes: &[u8], code: &[Range<usize>], change: &Change, folder: &Path) -> Result<bool, String> {
     let is_there =
         |&at: &usize| change.first.contains(&bytes[at]) && bytes.get(at + 1) == Some(&change.second);
     let Some(place) = code.iter().cloned().flatten().find(is_there) else {
@@ -62,7 +76,7 @@ fn write(
 
 /// Where the archive has the compiled evaluation: the sections of its object files that are named after
 /// the functions which compute a node's value.
-fn evaluation(archive: &[u8]) -> Option<Vec<std::ops::Range<usize>>> {
+fn evaluation(archive: &[u8]) -> Option<Vec<Range<usize>>> {
     let mut found = Vec::new();
     let mut at = 8; // past the archive's mark
     while let Some(header) = archive.get(at..at + 60) {
@@ -77,7 +91,7 @@ fn evaluation(archive: &[u8]) -> Option<Vec<std::ops::Range<usize>>> {
 }
 
 /// The sections of an object file (64-bit ELF) that have the evaluation's code.
-fn code_of(object: &[u8]) -> Option<Vec<std::ops::Range<usize>>> {
+fn code_of(object: &[u8]) -> Option<Vec<Range<usize>>> {
     let number = |at: usize, bytes: usize| {
         let field = object.get(at..at + bytes)?;
         Some(field.iter().rev().fold(0, |n, &byte| n << 8 | usize::from(byte)))

@@ -1,39 +1,10 @@
 //! A problem's bytes as text, in the form that `form` reads, with widths and derived pairs as remarks.
 //! A refused problem is shown as far as its bytes go, with the refused place marked.
 
-use model::problem::{read, Problem, Refusal, HEADER, NODE};
+use model::problem::{Problem, HEADER, NODE};
 use model::{ones, pairs, Kind, Pair};
 use std::fmt::Write;
-
-/// The text of a problem's bytes, and the refusal if it is refused.
-pub fn text(bytes: &[u8]) -> (String, Option<Refusal>) {
-    match read(bytes) {
-        Ok(problem) => (accepted(&problem), None),
-        Err(refusal) => (refused(bytes, refusal), Some(refusal)),
-    }
-}
-
-/// What a refusal's number means.
-pub fn reason(number: u8) -> &'static str {
-    match number {
-        1 => "fewer than 9 bytes",
-        2 => "the mark is not TBV",
-        3 => "the version is not 1",
-        4 => "more than 1,024 nodes",
-        5 => "more than 256 roots",
-        6 => "the length is not 9 + 24 for each node + 2 for each root",
-        7 => "the kind is over 13",
-        8 => "the width is 0 or over 64",
-        9 => "an operand's id is not below the node's own",
-        10 => "a field that the kind does not use is not zero",
-        11 => "the widths do not fit",
-        12 => "lo, hi are not a ternary word of the width, or a constant's lo and hi differ",
-        13 => "the root is no node, or one of more than 1 bit",
-        14 => "fewer places than nodes",
-        15 => "a variable's start does not agree with its pair",
-        _ => "no such refusal",
-    }
-}
+use walumpeh::{Place, Refusal};
 
 /// A ternary word's digits, the highest bit first.
 pub fn digits(pair: Pair, width: u32) -> String {
@@ -45,7 +16,8 @@ pub fn digits(pair: Pair, width: u32) -> String {
     (0..width).rev().map(digit).collect()
 }
 
-fn accepted(problem: &Problem) -> String {
+/// The text of an accepted problem.
+pub fn accepted(problem: &Problem) -> String {
     let (nodes, roots) = (problem.nodes.len(), problem.roots.len());
     let mut text = format!(
         "# {}, {}, longest chain under a root {}\n",
@@ -65,46 +37,46 @@ fn accepted(problem: &Problem) -> String {
     text
 }
 
-fn refused(bytes: &[u8], refusal: Refusal) -> String {
-    let mut text = format!("# refused {} at {}: {}\n", refusal.number, refusal.place, reason(refusal.number));
-    let number = |at: usize| usize::from(bytes[at]) | usize::from(bytes[at + 1]) << 8;
-    if refusal.number >= 3 {
-        let (version, nodes, roots) = (number(3), number(5), number(7));
-        writeln!(
-            text,
-            "# version {version}, {}, {}, {} bytes",
-            count(nodes, "node"),
-            count(roots, "root"),
-            bytes.len()
-        )
+/// The text of refused bytes, as far as they go: no nodes where the header is refused.
+pub fn refused(bytes: &[u8], refusal: Refusal) -> String {
+    let mut text = format!("# {refusal}\n");
+    let field = |at: usize| usize::from(bytes[at]) | usize::from(bytes[at + 1]) << 8;
+    if refusal.number < 3 {
+        return text + &format!("# {} bytes\n", bytes.len());
+    }
+    let (version, nodes, roots) = (field(3), field(5), field(7));
+    let (of_nodes, of_roots) = (count(nodes, "node"), count(roots, "root"));
+    writeln!(text, "# version {version}, {of_nodes}, {of_roots}, {} bytes", bytes.len())
         .expect("text takes all");
-    } else {
-        writeln!(text, "# {} bytes", bytes.len()).expect("text takes all");
+    if refusal.number > 6 {
+        let (nodes, roots) = bytes[HEADER..].split_at(NODE * nodes);
+        refused_nodes(&mut text, nodes, refusal);
+        refused_roots(&mut text, roots, refusal);
     }
-    if refusal.number <= 6 {
-        return text;
-    }
-    let (nodes, roots) = bytes[HEADER..].split_at(NODE * number(5));
+    text
+}
+
+fn refused_nodes(text: &mut String, nodes: &[u8], refusal: Refusal) {
     for (id, part) in nodes.chunks(NODE).enumerate() {
         let raw = Raw::new(part);
-        let here = refusal.number <= 12 && refusal.place == id;
-        let remark = if here {
-            format!("<== refused {}: {}: {}", refusal.number, reason(refusal.number), raw.bare())
+        let remark = if refusal.at() == Place::Node(id as u64) {
+            format!("<== refused {}: {}: {}", refusal.number, refusal.meaning(), raw.bare())
         } else {
             count(raw.width.into(), "bit")
         };
-        line(&mut text, &raw.shown(id), &remark);
+        line(text, &raw.shown(id), &remark);
     }
-    for (place, root) in roots.chunks(2).enumerate() {
+}
+
+fn refused_roots(text: &mut String, roots: &[u8], refusal: Refusal) {
+    for (position, root) in roots.chunks(2).enumerate() {
         let shown = format!("root {}", u16::from_le_bytes([root[0], root[1]]));
-        if refusal.number == 13 && refusal.place == place {
-            line(&mut text, &shown, &format!("<== refused 13: {}", reason(13)));
+        if refusal.at() == Place::Root(position as u64) {
+            line(text, &shown, &format!("<== refused {}: {}", refusal.number, refusal.meaning()));
         } else {
-            text += &shown;
-            text.push('\n');
+            writeln!(text, "{shown}").expect("text takes all");
         }
     }
-    text
 }
 
 fn line(text: &mut String, shown: &str, remark: &str) {
@@ -176,8 +148,7 @@ mod tests {
 
     #[test]
     fn the_worked_example() {
-        let (text, refusal) = text(&crate::worked_example().bytes());
-        assert_eq!(refusal, None);
+        let text = accepted(&crate::worked_example());
         let lines: Vec<&str> = text.lines().collect();
         assert_eq!(lines[0], "# 5 nodes, 1 root, longest chain under a root 2");
         assert_eq!(lines[1], "0 = var 4                    # 4 bits ****");
@@ -190,8 +161,8 @@ mod tests {
         for index in 0..500 {
             let mut rng = Rng::of_case(5, index);
             let size = random::size(&mut rng);
-            let bytes = random::problem(&mut rng, size).bytes();
-            assert_eq!(crate::form::bytes(&text(&bytes).0), Ok(bytes));
+            let problem = random::problem(&mut rng, size);
+            assert_eq!(crate::form::parse(&accepted(&problem)), Ok(problem));
         }
     }
 
@@ -201,14 +172,15 @@ mod tests {
             let mut rng = Rng::of_case(6, index);
             let problem = random::problem(&mut rng, 20);
             let bytes = damage::damaged(&mut rng, &problem, 1 + (index % 13) as u8);
-            let (text, refusal) = text(&bytes);
-            let Some(Refusal { number, place }) = refusal else {
+            let Err(refusal) = walumpeh::check(&bytes) else {
                 continue;
             };
-            let mark = format!("<== refused {number}");
+            let text = refused(&bytes, refusal);
+            let mark = format!("<== refused {}", refusal.number);
             let marked: Vec<usize> =
                 text.lines().enumerate().filter(|(_, line)| line.contains(&mark)).map(|(at, _)| at).collect();
-            match number {
+            let place = refusal.place as usize;
+            match refusal.number {
                 1..=6 => assert_eq!(marked, []),
                 7..=12 => assert_eq!(marked, [2 + place]),
                 _ => assert_eq!(marked, [2 + 20 + place]),

@@ -13,7 +13,7 @@
 //! Names are any words; nodes have their ids in the order of the lines. What follows `#` is a remark.
 
 use generate::Builder;
-use model::problem::{read, MOST_NODES, MOST_ROOTS};
+use model::problem::{MOST_NODES, MOST_ROOTS};
 use model::{ones, Kind, Pair, Problem};
 use std::collections::HashMap;
 
@@ -43,8 +43,9 @@ impl Draft {
                     None => Ok(()),
                 }
             }
+            ["root"] => Err("expected: root NODE..".into()),
             ["root", names @ ..] => names.iter().try_for_each(|name| self.root(name)),
-            _ => Err("neither 'NAME = KIND ..' nor 'root NAME'".into()),
+            _ => Err("neither 'NAME = KIND ..' nor 'root NODE..'".into()),
         }
     }
 
@@ -130,21 +131,24 @@ fn usage(kind: Kind) -> String {
 }
 
 fn width(word: &str) -> Result<u32, String> {
-    word.parse()
-        .ok()
-        .filter(|width| (1..=64).contains(width))
-        .ok_or(format!("'{word}' is not a width of 1 to 64"))
+    match number(word) {
+        Ok(width @ 1..=64) => Ok(width as u32),
+        _ => Err(format!("'{word}' is not a width of 1 to 64")),
+    }
 }
 
 /// A number: decimal, 0x.. or 0b.., with _ anywhere between its digits.
 fn number(word: &str) -> Result<u64, String> {
-    let digits = word.replace('_', "");
-    let parsed = match (digits.strip_prefix("0x"), digits.strip_prefix("0b")) {
-        (Some(hex), _) => u64::from_str_radix(hex, 16),
-        (_, Some(binary)) => u64::from_str_radix(binary, 2),
-        _ => digits.parse(),
+    let (digits, radix) = match (word.strip_prefix("0x"), word.strip_prefix("0b")) {
+        (Some(hex), _) => (hex, 16),
+        (_, Some(binary)) => (binary, 2),
+        _ => (word, 10),
     };
-    parsed.map_err(|_| format!("'{word}' is not a number of 64 bits"))
+    // The standard library would take a sign, too.
+    let parsed = Some(digits).filter(|digits| !digits.starts_with('+'));
+    parsed
+        .and_then(|digits| u64::from_str_radix(&digits.replace('_', ""), radix).ok())
+        .ok_or(format!("'{word}' is not a number of 64 bits"))
 }
 
 /// A ternary word, its highest bit first: 0 and 1 are fixed, * is free.
@@ -162,20 +166,6 @@ fn ternary(digits: &str, width: u32) -> Result<Pair, String> {
         };
         Ok(Pair { lo: pair.lo << 1 | lo, hi: pair.hi << 1 | hi })
     })
-}
-
-/// A problem's bytes from text, accepted.
-pub fn bytes(text: &str) -> Result<Vec<u8>, String> {
-    let bytes = parse(text)?.bytes();
-    match read(&bytes) {
-        Ok(_) => Ok(bytes),
-        Err(refusal) => Err(format!(
-            "refused {} at {}: {}",
-            refusal.number,
-            refusal.place,
-            crate::text::reason(refusal.number)
-        )),
-    }
 }
 
 #[cfg(test)]
@@ -197,6 +187,11 @@ mod tests {
             ("x = var 2 0a", "line 1: 'a' is none of 0, 1 and *"),
             ("x = const 2 4", "line 1: 4 has more than 2 bits"),
             ("x = const 2 four", "line 1: 'four' is not a number of 64 bits"),
+            ("x = const 2 +1", "line 1: '+1' is not a number of 64 bits"),
+            (
+                "x = const 64 18446744073709551616",
+                "line 1: '18446744073709551616' is not a number of 64 bits",
+            ),
             ("x = var 2\nx = var 2", "line 2: there is a node 'x' already"),
             ("x = not y", "line 1: no node 'y' above"),
             ("x = var 2\ny = add x", "line 2: expected: add A B"),
@@ -205,7 +200,8 @@ mod tests {
             ("x = var 4\ny = extract x 3 2", "line 2: 2 bits from bit 3 are not in a node of 4 bits"),
             ("x = var 4\nroot x", "line 2: root 'x' has 4 bits, not 1"),
             ("x = nand y y", "line 1: no kind 'nand'"),
-            ("x var 4", "line 1: neither 'NAME = KIND ..' nor 'root NAME'"),
+            ("x var 4", "line 1: neither 'NAME = KIND ..' nor 'root NODE..'"),
+            ("x = var 1\n\nroot # x", "line 3: expected: root NODE.."),
         ];
         for (text, fault) in faults {
             assert_eq!(parse(text).unwrap_err(), fault, "{text}");

@@ -1,0 +1,44 @@
+//! walumpeh build: a problem file from text.
+
+use crate::fault::Fault;
+use crate::files::read;
+use crate::files::write::{self, Output};
+use std::path::PathBuf;
+use std::process::ExitCode;
+use text::form;
+
+/// Make a problem file from a text, a line for each node
+#[derive(clap::Args)]
+#[command(after_help = FORM)]
+pub struct Args {
+    /// The text
+    text: PathBuf,
+    /// The problem file that is made
+    problem: PathBuf,
+    /// Allow a problem without roots: every start is a model of it
+    #[arg(long)]
+    rootless: bool,
+}
+
+const FORM: &str = "\
+The text:
+    x   = var 4            4 bits, all free
+    y   = var 4 10**       the top two bits fixed
+    six = const 4 6        also 0x6, 0b0110
+    p   = mul x six        and not, and, xor, add, shl, lshr, eq, below, if, concat
+    q   = extract p 1 2    from bit 1, two bits
+    ok  = eq p y
+    root ok
+Names are any words. What follows # is a remark.";
+
+pub fn run(args: &Args) -> Result<ExitCode, Fault> {
+    let text = read::text(&args.text)?;
+    let problem = form::parse(&text).map_err(|fault| Fault::at(&args.text, fault))?;
+    if problem.roots.is_empty() && !args.rootless {
+        return Err(Fault::at(&args.text, "no root: every start would be a model (--rootless allows it)"));
+    }
+    let bytes = problem.bytes();
+    walumpeh::check(&bytes).map_err(|refusal| Fault::at(&args.text, refusal))?;
+    write::all(&[Output { path: &args.problem, bytes }], &[&args.text])?;
+    Ok(ExitCode::SUCCESS)
+}

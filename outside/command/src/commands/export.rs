@@ -1,0 +1,134 @@
+//! walumpeh export: a problem as SMT-LIB text.
+
+use crate::fault::Fault;
+use crate::files::{print, read};
+use crate::problem::accepted;
+use model::{ones, Problem};
+use std::path::{Path, PathBuf};
+use std::process::ExitCode;
+use text::smt2::{nodes, pin, roots, values, Variables};
+
+/// Print a problem as SMT-LIB text, with an answer's values pinned if wanted
+///
+/// The logic is QF_BV: variables with their fixed bits, every node i under the name ni, and the
+/// assertion that every root is 1. sat says that the problem has a solution with the pins, unsat that it
+/// has none. So the answer of a run is confirmed by
+///     walumpeh run | walumpeh export problem.tbv --answer - | z3 -in
+#[derive(clap::Args)]
+#[command(verbatim_doc_comment)]
+pub struct Args {
+    /// The problem file
+    problem: PathBuf,
+    /// Pin every variable to its value in an answer of run or tvrun, which must list each once
+    #[arg(long, value_name = "FILE")]
+    answer: Option<PathBuf>,
+    /// Pin every variable to its place in a start file
+    #[arg(long, value_name = "FILE")]
+    start: Option<PathBuf>,
+    /// Assert that a node has a value; may be given more than once
+    #[arg(long, value_name = "ID=VALUE", value_parser = id_and_value)]
+    pin: Vec<Pin>,
+    /// Leave the roots' assertion out
+    #[arg(long)]
+    no_roots: bool,
+    /// Ask for the values of all nodes
+    #[arg(long)]
+    values: bool,
+}
+
+/// A node's id and its value.
+type Pin = (usize, u64);
+
+fn id_and_value(text: &str) -> Result<Pin, String> {
+    pin_of(text, '=').ok_or("not ID=VALUE".into())
+}
+
+/// An id and a value with a sign between them.
+fn pin_of(text: &str, between: char) -> Option<Pin> {
+    let (id, value) = text.split_once(between)?;
+    Some((usize::try_from(decimal(id)?).ok()?, decimal(value)?))
+}
+
+/// Decimal digits alone: the standard library would take a sign, too.
+fn decimal(digits: &str) -> Option<u64> {
+    Some(digits).filter(|digits| !digits.starts_with('+')).and_then(|digits| digits.parse().ok())
+}
+
+pub fn run(args: &Args) -> Result<ExitCode, Fault> {
+    let problem = accepted(&args.problem)?.problem;
+    let mut text = format!("(set-logic QF_BV)\n{}", nodes(&problem, "", Variables::Open));
+    if let Some(file) = &args.answer {
+        text += &pinned(&problem, file, &answer_pins(&problem, file)?)?;
+    }
+    if let Some(file) = &args.start {
+        text += &pinned(&problem, file, &start_pins(&problem, file)?)?;
+    }
+    text += &pinned(&problem, Path::new("--pin"), &args.pin)?;
+    if !args.no_roots {
+        text += &roots(&problem, "");
+    }
+    text += "(check-sat)\n";
+    if args.values {
+        text += &values(0..problem.nodes.len(), "");
+    }
+    print::text(&text)
+}
+
+/// The assertions of pins that came from somewhere.
+fn pinned(problem: &Problem, from: &Path, pins: &[Pin]) -> Result<String, Fault> {
+    let one = |&(id, value): &Pin| match problem.nodes.get(id) {
+        None => Err(Fault::at(from, format!("there is no node {id} to pin"))),
+        Some(node) if value > ones(node.width) => {
+            Err(Fault::at(from, format!("node {id} has {} bits, too few for {value}", node.width)))
+        }
+        Some(_) => Ok(pin(problem, "", id, value)),
+    };
+    pins.iter().map(one).collect()
+}
+
+/// Every variable with its word of a file.
+fn start_pins(problem: &Problem, file: &Path) -> Result<Vec<Pin>, Fault> {
+    let words = read::start(file)?;
+    if words.len() < problem.nodes.len() {
+        return Err(Fault::at(file, format!("{} words for {} nodes", words.len(), problem.nodes.len())));
+    }
+    Ok(problem.variables().map(|id| (id, words[id])).collect())
+}
+
+/// The variables of an answer: its first line is a verdict, each further one `ID VALUE`; every variable
+/// is there once, in the order of ids, and nothing else.
+fn answer_pins(problem: &Problem, file: &Path) -> Result<Vec<Pin>, Fault> {
+    let text = read::text(file)?;
+    let mut lines = text.lines().enumerate();
+    let at = |number: usize, what: String| Fault::at(file, format!("line {}: {what}", number + 1));
+    match lines.next() {
+        Some((_, first)) if is_verdict(first) => {}
+        Some((_, first)) => return Err(at(0, format!("'{first}' is no verdict with its counts"))),
+        None => return Err(Fault::at(file, "no answer in it")),
+    }
+    let mut pins = Vec::new();
+    for id in problem.variables() {
+        let (number, line) =
+            lines.next().ok_or_else(|| Fault::at(file, format!("no value of variable {id}")))?;
+        match pin_of(line, ' ') {
+            Some((found, value)) if found == id => pins.push((id, value)),
+            Some((found, _)) => return Err(at(number, format!("node {found}, expected variable {id}"))),
+            None => return Err(at(number, format!("'{line}' is not 'ID VALUE'"))),
+        }
+    }
+    match lines.next() {
+        None => Ok(pins),
+        Some((number, line)) => Err(at(number, format!("'{line}' after the last variable"))),
+    }
+}
+
+/// `verdict NAME moves M steps S words W`
+fn is_verdict(line: &str) -> bool {
+    let number = |word: &str| decimal(word).is_some();
+    match line.split(' ').collect::<Vec<_>>()[..] {
+        ["verdict", name, "moves", m, "steps", s, "words", w] => {
+            ["model", "spent", "ended", "closed"].contains(&name) && number(m) && number(s) && number(w)
+        }
+        _ => false,
+    }
+}

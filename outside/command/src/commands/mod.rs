@@ -1,0 +1,38 @@
+//! The subcommands: each module has its arguments and what it does with them.
+
+mod build;
+mod check;
+mod example;
+mod export;
+mod run;
+mod show;
+mod tape;
+
+use crate::fault::Fault;
+use clap::Subcommand;
+use std::process::ExitCode;
+
+#[derive(Subcommand)]
+pub enum Command {
+    Build(build::Args),
+    Show(show::Args),
+    Check(check::Args),
+    Tape(tape::Args),
+    Run(run::Args),
+    Export(export::Args),
+    Example(example::Args),
+}
+
+impl Command {
+    pub fn run(self) -> Result<ExitCode, Fault> {
+        match self {
+            Command::Build(args) => build::run(&args),
+            Command::Show(args) => show::run(&args),
+            Command::Check(args) => check::run(&args),
+            Command::Tape(args) => tape::run(&args),
+            Command::Run(args) => run::run(&args),
+            Command::Export(args) => export::run(&args),
+            Command::Example(args) => example::run(&args),
+        }
+    }
+}

@@ -1,0 +1,69 @@
+//! walumpeh run: a whole run, as tvrun makes it.
+
+use crate::fault::Fault;
+use crate::files::{print, read};
+use crate::problem::decoded;
+use std::fmt::Write;
+use std::path::PathBuf;
+use std::process::ExitCode;
+use walumpeh::Verdict;
+
+/// Run a problem from a start along a tape, and print what tvrun prints
+///
+/// The answer's line, and a line 'ID VALUE' for each variable. Unlike tvrun it takes tapes of any
+/// length, a file that is missing is a fault, and the status tells the answer.
+#[derive(clap::Args)]
+#[command(verbatim_doc_comment, after_help = STATUS)]
+pub struct Args {
+    /// The problem file
+    #[arg(default_value = "problem.tbv")]
+    problem: PathBuf,
+    /// The start: a 64-bit little-endian word for each node
+    #[arg(default_value = "start.bin")]
+    start: PathBuf,
+    /// The budget (its word modulo 65536) and the tape, in words of the same form
+    #[arg(default_value = "tape.bin")]
+    tape: PathBuf,
+    /// The most moves, in place of the budget in the tape file
+    #[arg(long)]
+    budget: Option<u16>,
+}
+
+const STATUS: &str = "\
+Exit status: 0 model, 3 spent, 4 ended, 5 closed; 1 refused, or a file cannot be read;
+2 the command line is not understood.";
+
+pub fn run(args: &Args) -> Result<ExitCode, Fault> {
+    let problem = read::problem(&args.problem)?;
+    let mut values = read::start(&args.start)?;
+    let words = read::tape(&args.tape)?;
+    let (first, tape) = words.split_first().unwrap_or((&0, &[]));
+    let budget = args.budget.unwrap_or(*first as u16);
+    match walumpeh::run(&problem, &mut values, tape, budget) {
+        Err(refusal) => {
+            print::text(&format!("refused {} at {}\n", refusal.number, refusal.place))?;
+            let at = if refusal.number < 14 { &args.problem } else { &args.start };
+            Err(Fault::at(at, refusal))
+        }
+        Ok(answer) => {
+            let (moves, steps, words) = (answer.moves, answer.steps, answer.words);
+            let mut text =
+                format!("verdict {} moves {moves} steps {steps} words {words}\n", answer.verdict.name());
+            let problem = decoded(&problem).map_err(|fault| Fault::at(&args.problem, fault))?;
+            for id in problem.variables() {
+                writeln!(text, "{id} {}", values[id]).expect("text takes all");
+            }
+            print::text(&text)?;
+            Ok(status(answer.verdict))
+        }
+    }
+}
+
+fn status(verdict: Verdict) -> ExitCode {
+    match verdict {
+        Verdict::Model => ExitCode::SUCCESS,
+        Verdict::Spent => ExitCode::from(3),
+        Verdict::Ended => ExitCode::from(4),
+        Verdict::Closed => ExitCode::from(5),
+    }
+}

@@ -1,0 +1,71 @@
+//! walumpeh tape: a start and a tape from a seed.
+
+use crate::fault::Fault;
+use crate::files::write::{self, Output};
+use crate::problem::accepted;
+use generate::tape::{drawn, Drawn};
+use model::files::{bytes_of, tape_file, MOST_WORDS};
+use model::run::Search;
+use model::{Kind, Problem};
+use rand_chacha::rand_core::{RngCore, SeedableRng};
+use rand_chacha::ChaCha8Rng;
+use std::path::PathBuf;
+use std::process::ExitCode;
+
+/// Make a start and a tape for a problem from a seed
+///
+/// The words are drawn as a run from that start asks for them, since only the run says which words
+/// serve as an e; the tape ends where that run does.
+#[derive(clap::Args)]
+#[command(verbatim_doc_comment)]
+pub struct Args {
+    /// The problem file
+    problem: PathBuf,
+    /// The start file that is made
+    #[arg(default_value = "start.bin")]
+    start: PathBuf,
+    /// The tape file that is made
+    #[arg(default_value = "tape.bin")]
+    tape: PathBuf,
+    /// The same seed makes the same files
+    #[arg(long, default_value_t = 1)]
+    seed: u64,
+    /// The most moves
+    #[arg(long, default_value_t = 1000)]
+    budget: u16,
+    /// Of a hundred words e, how many ask for the inverse set, that is, are even
+    #[arg(long, default_value_t = 95, value_name = "PERCENT", value_parser = clap::value_parser!(u8).range(0..=100))]
+    inverse: u8,
+    /// The most words of the tape; tvrun reads no more than 1023
+    #[arg(long, default_value_t = MOST_WORDS)]
+    words: usize,
+    /// Start each variable at the least value that agrees, not at one by chance
+    #[arg(long)]
+    least: bool,
+}
+
+pub fn run(args: &Args) -> Result<ExitCode, Fault> {
+    let problem = accepted(&args.problem)?;
+    let mut chance = ChaCha8Rng::seed_from_u64(args.seed);
+    let start = start(&problem.problem, |free| if args.least { 0 } else { chance.next_u64() & free });
+    let search = Search::accept(&problem.bytes, &start).map_err(|refusal| {
+        Fault::at(&args.problem, format!("the model refuses it: {} at {}", refusal.number, refusal.place))
+    })?;
+    let words = Drawn::new(|| chance.next_u64(), args.inverse.into(), args.words);
+    let (tape, _) = drawn(&search, &start, args.budget, words);
+    let outputs = [
+        Output { path: &args.start, bytes: bytes_of(&start) },
+        Output { path: &args.tape, bytes: tape_file(args.budget, &tape) },
+    ];
+    write::all(&outputs, &[&args.problem])?;
+    Ok(ExitCode::SUCCESS)
+}
+
+/// A word for each node: for a variable a value that agrees, its free bits as chosen; 0 elsewhere.
+fn start(problem: &Problem, mut chosen: impl FnMut(u64) -> u64) -> Vec<u64> {
+    let word = |node: &model::Node| match node.kind {
+        Kind::Variable => node.pair.lo | chosen(node.pair.open()),
+        _ => 0,
+    };
+    problem.nodes.iter().map(word).collect()
+}

@@ -1,0 +1,52 @@
+//! Reading. `-` is standard input. Nothing reads on for ever: of each sort of file no more is taken
+//! than can ever count.
+
+use crate::fault::Fault;
+use model::files::{words_of, MOST_BYTES, MOST_PLACES};
+use std::fs::File;
+use std::io::Read;
+use std::path::Path;
+
+/// The budget, and as many words as 65,535 moves of 1,023 steps take.
+const MOST_TAPE: u64 = 8 * (1 + 65_535 * (1 + 2 * 1023));
+/// The longest text: 1,024 nodes take a small part of it.
+const MOST_TEXT: u64 = 1 << 24;
+
+/// A problem's bytes; of one that is too long as many as show it.
+pub fn problem(path: &Path) -> Result<Vec<u8>, Fault> {
+    bytes(path, MOST_BYTES as u64)
+}
+
+/// A start's words.
+pub fn start(path: &Path) -> Result<Vec<u64>, Fault> {
+    bytes(path, 8 * MOST_PLACES as u64).map(|bytes| words_of(&bytes))
+}
+
+/// A tape file's words: the budget first.
+pub fn tape(path: &Path) -> Result<Vec<u64>, Fault> {
+    bytes(path, MOST_TAPE).map(|bytes| words_of(&bytes))
+}
+
+pub fn text(path: &Path) -> Result<String, Fault> {
+    let bytes = bytes(path, MOST_TEXT + 1)?;
+    if bytes.len() as u64 > MOST_TEXT {
+        return Err(Fault::at(path, format!("more than {MOST_TEXT} bytes of text")));
+    }
+    String::from_utf8(bytes).map_err(|fault| {
+        let before = &fault.as_bytes()[..fault.utf8_error().valid_up_to()];
+        let line = 1 + before.iter().filter(|&&byte| byte == b'\n').count();
+        Fault::at(path, format!("line {line}: not text: a byte that is not UTF-8"))
+    })
+}
+
+fn bytes(path: &Path, most: u64) -> Result<Vec<u8>, Fault> {
+    let mut bytes = Vec::new();
+    let read = match path.to_str() {
+        Some("-") => std::io::stdin().lock().take(most).read_to_end(&mut bytes),
+        _ => File::open(path).and_then(|file| file.take(most).read_to_end(&mut bytes)),
+    };
+    match read {
+        Ok(_) => Ok(bytes),
+        Err(fault) => Err(Fault::at(path, fault)),
+    }
+}

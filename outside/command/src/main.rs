@@ -1,0 +1,54 @@
+//! The command `walumpeh`: a thin shell over the proved library. Files, arguments and tapes are handled
+//! here; whether a problem is accepted and what a run answers is always the library's word.
+//!
+//! | module     | what it holds                                             |
+//! |------------|-----------------------------------------------------------|
+//! | `commands` | one module for each subcommand                            |
+//! | `files`    | reading, writing and printing                             |
+//! | `problem`  | an accepted problem from a file                           |
+//! | `fault`    | what goes wrong, in words for the user                    |
+//! | `started`  | what has to be looked at before Rust's own start          |
+
+mod commands;
+mod fault;
+mod files;
+mod problem;
+mod started;
+
+use clap::Parser;
+use commands::Command;
+use fault::Fault;
+use std::process::ExitCode;
+
+/// Search for values that meet bit-vector conditions, by a proved local search
+#[derive(Parser)]
+#[command(name = "walumpeh", version, after_help = STATUS, disable_help_subcommand = true)]
+struct Line {
+    #[command(subcommand)]
+    command: Command,
+}
+
+const STATUS: &str = "\
+Where a file is read, '-' is standard input.
+Exit status: 0 done; 1 refused, or a file cannot be read or written; 2 the command line is not understood.
+run has more.";
+
+fn main() -> ExitCode {
+    let done = match Line::try_parse() {
+        Ok(line) => line.command.run(),
+        Err(error) if error.use_stderr() => {
+            eprint!("{error}");
+            return ExitCode::from(2);
+        }
+        // --help and --version
+        Err(asked) => files::print::text(&asked.to_string()),
+    };
+    match done {
+        Ok(status) => status,
+        Err(Fault::Unheard) => ExitCode::FAILURE,
+        Err(Fault::Told(words)) => {
+            eprintln!("walumpeh: {words}");
+            ExitCode::FAILURE
+        }
+    }
+}

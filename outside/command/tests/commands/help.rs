@@ -1,0 +1,63 @@
+//! Help, version, and lines that are not understood.
+
+use crate::at::At;
+
+const COMMANDS: [&str; 7] = ["build", "show", "check", "tape", "run", "export", "example"];
+
+#[test]
+fn help_names_every_command() {
+    let at = At::new("help");
+    let help = at.printed("--help");
+    assert_eq!(at.printed("-h"), help);
+    for command in COMMANDS {
+        assert!(help.lines().any(|line| line.trim_start().starts_with(command)), "{command}: {help}");
+    }
+    assert!(help.contains("Exit status"), "{help}");
+}
+
+#[test]
+fn every_command_has_help() {
+    let at = At::new("helps");
+    for command in COMMANDS {
+        for asked in ["--help", "-h"] {
+            let help = at.printed(&format!("{command} {asked}"));
+            assert!(help.contains(&format!("Usage: walumpeh {command}")), "{help}");
+        }
+    }
+    for (command, words) in [
+        ("build", ["--rootless", "root ok"]),
+        ("tape", ["--seed <SEED>", "[default: 95]"]),
+        ("run", ["--budget", "3 spent, 4 ended, 5 closed"]),
+        ("export", ["--answer <FILE>", "--pin <ID=VALUE>"]),
+        ("show", ["fixed bits", "<=="]),
+        ("example", ["[default: .]", "0 11"]),
+    ] {
+        let help = at.printed(&format!("{command} --help"));
+        assert!(words.iter().all(|word| help.contains(word)), "{help}");
+    }
+}
+
+#[test]
+fn the_version_is_said() {
+    let at = At::new("version");
+    at.prints("--version", concat!("walumpeh ", env!("CARGO_PKG_VERSION"), "\n"));
+    at.prints("-V", concat!("walumpeh ", env!("CARGO_PKG_VERSION"), "\n"));
+}
+
+#[test]
+fn lines_that_are_not_understood() {
+    let at = At::example("lines");
+    at.misunderstood("", &["Usage: walumpeh <COMMAND>", "build"]);
+    at.misunderstood("nonsense", &["nonsense"]);
+    at.misunderstood("show", &["<PROBLEM>"]);
+    at.misunderstood("show problem.tbv --nonsense", &["--nonsense"]);
+    at.misunderstood("show problem.tbv more", &["more"]);
+    at.misunderstood("build only.txt", &["<PROBLEM>"]);
+    at.misunderstood("tape problem.tbv --inverse 101", &["--inverse", "101", "0..=100"]);
+    at.misunderstood("tape problem.tbv --budget 65536", &["--budget", "65536"]);
+    at.misunderstood("tape problem.tbv --seed=-1", &["--seed", "-1"]);
+    at.misunderstood("tape problem.tbv --seed", &["--seed"]);
+    at.misunderstood("tape problem.tbv --seed 1 --seed 2", &["--seed"]);
+    at.misunderstood("export problem.tbv --pin 0", &["--pin", "not ID=VALUE"]);
+    at.misunderstood("export problem.tbv --pin 0=+1", &["--pin", "not ID=VALUE"]);
+}

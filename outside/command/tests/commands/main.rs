@@ -1,0 +1,10 @@
+//! The command as a user runs it: what it prints and writes, and that what is wrong is said in words,
+//! with a status that is not 0 and nothing written.
+
+mod answers;
+mod at;
+mod faults;
+mod help;
+mod printing;
+mod tour;
+mod writing;

@@ -1,0 +1,49 @@
+//! A standard output that is closed, full, or no longer read.
+
+use crate::at::{text, At, WALUMPEH};
+use std::process::{Command, Output};
+
+const PRINTING: [&str; 6] =
+    ["show problem.tbv", "check problem.tbv", "run", "export problem.tbv", "--help", "tape --help"];
+
+/// The command with its standard output sent elsewhere by a shell.
+fn sent(at: &At, line: &str, to: &str) -> Output {
+    let script = format!("'{WALUMPEH}' {line} {to}");
+    Command::new("sh").args(["-c", &script]).current_dir(&at.folder).output().unwrap()
+}
+
+#[test]
+fn a_closed_standard_output_is_noticed() {
+    let at = At::example("closed");
+    for line in PRINTING {
+        let output = sent(&at, line, ">&-");
+        let found = (output.status.code(), text(&output.stderr));
+        assert_eq!(found, (Some(1), "walumpeh: standard output: closed\n".into()), "{line}");
+    }
+    let quiet = sent(&at, "tape problem.tbv", ">&-");
+    assert_eq!((quiet.status.code(), text(&quiet.stderr).as_str()), (Some(0), ""));
+}
+
+#[test]
+fn an_output_that_nobody_reads_ends_quietly() {
+    let at = At::example("unread");
+    for line in PRINTING {
+        // The reader is gone before the command starts; what it says and its status come by files.
+        let to = "2>said; echo $? >status; } | true";
+        let script = format!("{{ sleep 0.2; '{WALUMPEH}' {line} {to}");
+        Command::new("sh").args(["-c", &script]).current_dir(&at.folder).status().unwrap();
+        let found = (text(&at.read("status")), text(&at.read("said")));
+        assert_eq!(found, ("1\n".into(), String::new()), "{line}");
+    }
+}
+
+#[test]
+fn a_full_output_is_told() {
+    let at = At::example("full");
+    for line in PRINTING {
+        let output = sent(&at, line, ">/dev/full");
+        let found = (output.status.code(), text(&output.stderr));
+        let said = "walumpeh: standard output: No space left on device (os error 28)\n";
+        assert_eq!(found, (Some(1), said.into()), "{line}");
+    }
+}

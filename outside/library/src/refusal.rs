@@ -1,0 +1,67 @@
+//! Refusals: number, place and meaning.
+
+use std::fmt::{Display, Formatter, Result};
+
+/// A refusal's number, 1 to 15, and its place: a node's id, a root's position, or 0.
+#[derive(Clone, Copy, Debug, PartialEq, Eq)]
+pub struct Refusal {
+    pub number: u8,
+    pub place: u64,
+}
+
+/// What a refusal's place is.
+#[derive(Clone, Copy, Debug, PartialEq, Eq)]
+pub enum Place {
+    /// The bytes or the call as a whole.
+    Whole,
+    /// A node, by its id.
+    Node(u64),
+    /// A root, by its position.
+    Root(u64),
+}
+
+impl Refusal {
+    pub fn at(self) -> Place {
+        match self.number {
+            7..=12 | 15 => Place::Node(self.place),
+            13 => Place::Root(self.place),
+            _ => Place::Whole,
+        }
+    }
+
+    /// What the number means, in words.
+    pub fn meaning(self) -> &'static str {
+        match self.number {
+            1 => "fewer than 9 bytes",
+            2 => "the mark is not TBV",
+            3 => "the version is not 1",
+            4 => "more than 1,024 nodes",
+            5 => "more than 256 roots",
+            6 => "the length is not 9 + 24 for each node + 2 for each root",
+            7 => "the kind is over 13",
+            8 => "the width is 0 or over 64",
+            9 => "an operand's id is not below the node's own",
+            10 => "a field that the kind does not use is not zero",
+            11 => "the widths do not fit",
+            12 => "lo, hi are not a ternary word of the width, or a constant's lo and hi differ",
+            13 => "the root is no node, or one of more than 1 bit",
+            14 => "fewer places than nodes",
+            15 => "a variable's start does not agree with its pair",
+            _ => "no such refusal",
+        }
+    }
+}
+
+/// `refused NUMBER at PLACE`, as tvrun prints it, what the place is, and the meaning.
+impl Display for Refusal {
+    fn fmt(&self, f: &mut Formatter) -> Result {
+        write!(f, "refused {} at {}", self.number, self.place)?;
+        match self.at() {
+            Place::Whole => write!(f, ": {}", self.meaning()),
+            Place::Node(id) => write!(f, ": node {id}: {}", self.meaning()),
+            Place::Root(position) => write!(f, ": root {position}: {}", self.meaning()),
+        }
+    }
+}
+
+impl std::error::Error for Refusal {}
