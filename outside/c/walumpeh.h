@@ -1,5 +1,19 @@
-/* The proved library's four calls. Each answers for every input; a slice is a pointer and a length,
-   and a pointer may be any where its length is 0. Slices that are written must not overlap others. */
+/* The proved library's calls, on numbers and slices.
+
+   A slice is a pointer and, after it, its length. The pointer may be any where the length is 0. What is
+   marked const is only read; every other slice is written, and must overlap no other. Nothing else is
+   asked of a caller: every input has an answer, and no call reads or writes beyond its slices.
+
+   Every call but the two picks answers a refusal: 0 where nothing is refused, else
+
+       number + 256 x place
+
+   with the numbers below; the place is a node's id, a root's position, or 0. wal_number and wal_place
+   take it apart. WAL_TOO_SHORT comes before all else where an array lent for the answer is too short:
+   nothing is done then.
+
+   Calls share nothing, keep nothing and allocate nothing: any number may run at once, on any threads.
+   A call takes at most WAL_STACK bytes of stack (wal_run the most, for the pairs of up to 1,024 nodes). */
 #ifndef WALUMPEH_H
 #define WALUMPEH_H
 
@@ -10,23 +24,78 @@
 extern "C" {
 #endif
 
-/* The problem check: 0 where the problem is accepted, else the refusal's number (low 8 bits, 1 to 13)
-   + 256 x its place. */
-uint32_t wal_check(const uint8_t *problem, size_t problem_len);
+enum { WAL_STACK = 24576 };
 
-enum { WAL_MODEL = 0, WAL_SPENT = 1, WAL_ENDED = 2, WAL_CLOSED = 3, WAL_REFUSED = 16 };
+/* What a node computes. Fields a, b, c of a node name its operands; extract's b is its lowest bit. */
+enum {
+    WAL_VARIABLE = 0,
+    WAL_CONSTANT = 1,
+    WAL_NOT = 2,
+    WAL_AND = 3,
+    WAL_XOR = 4,
+    WAL_ADD = 5,
+    WAL_MUL = 6,
+    WAL_SHL = 7,
+    WAL_LSHR = 8,
+    WAL_EQ = 9,
+    WAL_BELOW = 10, /* a below b, unsigned */
+    WAL_IF = 11,    /* if a then b else c */
+    WAL_CONCAT = 12, /* a high */
+    WAL_EXTRACT = 13
+};
 
-/* A whole run: one of the verdicts above, or WAL_REFUSED + the refusal's number (1 to 15). Of the
-   values only the variables' places are read; after a verdict the first N hold every node's value,
-   and after a refusal none is changed. out, of at least 4 words, takes moves, steps, words and the
-   refusal's place. */
-uint32_t wal_run(const uint8_t *problem, size_t problem_len, uint64_t *values, size_t values_len,
+/* Refusals, in the order of checking; in brackets what the place is. */
+enum {
+    WAL_ACCEPTED = 0,
+    WAL_FEW_BYTES = 1,     /* fewer than 9 bytes */
+    WAL_MARK = 2,          /* the mark is not TBV */
+    WAL_VERSION = 3,       /* the version is not 1 */
+    WAL_NODES = 4,         /* more than 1,024 nodes */
+    WAL_ROOTS = 5,         /* more than 256 roots */
+    WAL_LENGTH = 6,        /* the length is not 9 + 24 for each node + 2 for each root */
+    WAL_KIND = 7,          /* [node] the kind is over 13 */
+    WAL_WIDTH = 8,         /* [node] the width is 0 or over 64 */
+    WAL_OPERAND = 9,       /* [node] an operand's id is not below the node's own */
+    WAL_UNUSED_FIELD = 10, /* [node] a field that the kind does not use is not zero */
+    WAL_WIDTH_RULE = 11,   /* [node] the widths do not fit */
+    WAL_PAIR = 12,         /* [node] lo, hi are not a ternary word of the width, or a constant's differ */
+    WAL_ROOT = 13,         /* [root] no node, or one of more than 1 bit */
+    WAL_FEW_PLACES = 14,   /* fewer places for values than nodes */
+    WAL_START = 15,        /* [node] a variable's start does not agree with its pair */
+    WAL_TOO_SHORT = 255    /* an array lent for the answer is too short: nothing was done */
+};
+
+/* Verdicts of a run; WAL_REFUSED stands beside a refusal. */
+enum {
+    WAL_MODEL = 0,  /* every root is 1 */
+    WAL_SPENT = 1,  /* the budget is used up */
+    WAL_ENDED = 2,  /* the tape cannot serve a draw whole */
+    WAL_CLOSED = 3, /* a root is fixed at 0 */
+    WAL_REFUSED = 4
+};
+
+/* Where wal_run puts what in out, and how many words it needs there. */
+enum { WAL_OUT_VERDICT = 0, WAL_OUT_MOVES = 1, WAL_OUT_STEPS = 2, WAL_OUT_WORDS = 3, WAL_RUN_OUT = 4 };
+
+/* A refusal's number and place. */
+static inline unsigned wal_number(uint64_t refusal) { return (unsigned)(refusal & 255); }
+static inline uint64_t wal_place(uint64_t refusal) { return refusal >> 8; }
+
+/* The problem check: refusals 1 to 13. */
+uint64_t wal_check(const uint8_t *problem, size_t problem_len);
+
+/* A whole run: refusals 1 to 15. Of the values only the variables' places are read; after a verdict the
+   first N hold every node's value and those after them what they held, and after a refusal none is
+   changed. out takes verdict, moves, steps and words; beside a refusal WAL_REFUSED, 0, 0 and 0. Words of
+   out after the fourth are not touched. */
+uint64_t wal_run(const uint8_t *problem, size_t problem_len, uint64_t *values, size_t values_len,
                  const uint64_t *tape, size_t tape_len, uint16_t budget, uint64_t *out, size_t out_len);
 
-/* The pick from the inverse (which = 0) or consistent (1) set of an operand's position: 1 with the
-   value in out[0], 0 where the set is empty, 2 where the arguments are not those of a node of an
-   accepted problem. spot has 12 words: the widths of operands a, b, c, their los, their his and their
-   current values, zeros where the kind has no such operand. low is extract's lowest bit, else 0. */
+/* The pick from the inverse (which = 0) or consistent (else) set of an operand's position: 1 with the
+   value in out[0], 0 where the set is empty, 2 where no accepted problem has such a node, position and
+   target, or out has no place. spot has 12 words: the widths of operands a, b, c, their los, their his
+   and their current values, zeros where the kind has no such operand; words that are missing are 0. low
+   is extract's lowest bit, else 0. */
 uint8_t wal_pick(uint8_t kind, uint32_t width, uint32_t low, const uint64_t *spot, size_t spot_len,
                  uint32_t position, uint64_t target, uint64_t proposal, uint8_t which, uint64_t *out,
                  size_t out_len);

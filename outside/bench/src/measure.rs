@@ -3,7 +3,7 @@
 use std::time::Instant;
 
 /// The run as both sides have it.
-pub type Run = fn(&[u8], &mut [u64], &[u64], u16, &mut [u64; 4]) -> u32;
+pub type Run = fn(&[u8], &mut [u64], &[u64], u16, &mut [u64]) -> u64;
 
 /// The proved library and plain Rust, by name.
 pub const SIDES: [(&str, Run); 2] = [("library", walumpeh::raw::run), ("plain", plain::calls::run)];

@@ -66,7 +66,7 @@ impl Workload {
     /// One of the runs, by one side.
     pub fn run(&mut self, run: Run, index: usize) {
         self.values.copy_from_slice(&self.starts[index]);
-        let mut out = [0; 4];
+        let mut out = [0; walumpeh::raw::RUN_OUT];
         run(&self.problem, &mut self.values, &self.tapes[index], self.budget, &mut out);
         std::hint::black_box(out);
     }

@@ -40,7 +40,7 @@ fn spoilt(rng: &mut Rng, kind: Kind) -> Vec<(&'static str, Asked)> {
         changed
     };
     let shut = !spot.pairs[at].open();
-    vec![
+    let mut faults = vec![
         ("no such kind", with(&|q| q.kind = 14)),
         ("a variable", with(&|q| q.kind = 0)),
         ("a constant", with(&|q| q.kind = 1)),
@@ -53,7 +53,14 @@ fn spoilt(rng: &mut Rng, kind: Kind) -> Vec<(&'static str, Asked)> {
         ("lo outside hi", with(&|q| (q.words[3 + at], q.words[6 + at]) = (1, 0))),
         ("hi outside the width", with(&|q| q.words[6 + at] = u64::MAX)),
         ("a value that does not agree", with(&|q| q.words[9 + at] ^= 1 << shut.trailing_zeros())),
-    ]
+    ];
+    if kind != Kind::Extract {
+        faults.push(("a lowest bit that the kind has not", with(&|q| q.low = 7)));
+    }
+    for unused in (kind.operands()..3).flat_map(|position| [0, 3, 6, 9].map(|group| group + position)) {
+        faults.push(("an operand that the kind has not", with(&|q| q.words[unused] = 1)));
+    }
+    faults
 }
 
 #[cfg(test)]

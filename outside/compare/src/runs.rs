@@ -5,6 +5,7 @@ use crate::parts;
 use crate::subject::{Model, Subject};
 use generate::case::{case, Case};
 use generate::{damage, Rng};
+use model::calls::{RUN_OUT, TOO_SHORT};
 use model::files::{bytes_of, tape_file};
 use model::run::{run_seen, Step};
 use model::{Kind, Verdict};
@@ -103,10 +104,10 @@ fn compare_part(subject: &impl Subject, seed: u64, part: Range<u64>) -> Result<C
     let mut counts = Counts::default();
     for index in part {
         let case = case(seed, index);
-        if let Err(what) = compare_case(subject, &case, &mut counts) {
-            return Err(Box::new(Difference { index, what, case }));
-        }
-        if let Err(what) = compare_damaged(subject, seed, index, &case, &mut counts) {
+        let compared = compare_case(subject, &case, &mut counts)
+            .and_then(|()| compare_short(subject, &case, index as usize % RUN_OUT))
+            .and_then(|()| compare_damaged(subject, seed, index, &case, &mut counts));
+        if let Err(what) = compared {
             return Err(Box::new(Difference { index, what, case }));
         }
     }
@@ -117,42 +118,36 @@ fn compare_part(subject: &impl Subject, seed: u64, part: Range<u64>) -> Result<C
 fn compare_case(subject: &impl Subject, case: &Case, counts: &mut Counts) -> Result<(), String> {
     let (checked, due) = (subject.check(&case.problem), Model.check(&case.problem));
     if checked != due {
-        return Err(format!(
-            "check answered {checked} (refusal {} at {}), expected {due} (refusal {} at {})",
-            checked & 255,
-            checked >> 8,
-            due & 255,
-            due >> 8
-        ));
+        return Err(format!("check answered {}, expected {}", refusal_shown(checked), refusal_shown(due)));
     }
     let (mut values, mut expected_values) = (case.values.clone(), case.values.clone());
-    let (mut out, mut expected_out) = ([u64::MAX; 4], [0; 4]);
-    let number = subject.run(&case.problem, &mut values, &case.tape, case.budget, &mut out);
+    let (mut out, mut expected_out) = ([u64::MAX; RUN_OUT], [0; RUN_OUT]);
+    let refusal = subject.run(&case.problem, &mut values, &case.tape, case.budget, &mut out);
     let answer =
         run_seen(&case.problem, &mut expected_values, &case.tape, case.budget, &mut |step| counts.see(step));
     let expected = model::calls::numbers(&answer, &mut expected_out);
-    if (number, out) != (expected, expected_out) {
+    if (refusal, out) != (expected, expected_out) {
         return Err(format!(
             "run answered {}, expected {}",
-            shown(number, out),
+            shown(refusal, out),
             shown(expected, expected_out)
         ));
     }
     if let Some(place) = (0..values.len()).find(|&place| values[place] != expected_values[place]) {
         return Err(format!(
             "after {} place {place} holds {}, expected {}",
-            shown(number, out),
+            shown(refusal, out),
             values[place],
             expected_values[place]
         ));
     }
-    let [moves, steps, words, _] = out;
+    let [verdict, moves, steps, words] = out;
     if let Some(promise) = case.promise {
         counts.promised += 1;
-        if number != Verdict::Model as u32 || moves > promise.moves || words > promise.words {
+        if verdict != Verdict::Model as u64 || moves > promise.moves || words > promise.words {
             return Err(format!(
                 "{}, but a model was promised within {} moves and {} words",
-                shown(number, out),
+                shown(refusal, out),
                 promise.moves,
                 promise.words
             ));
@@ -161,9 +156,19 @@ fn compare_case(subject: &impl Subject, case: &Case, counts: &mut Counts) -> Res
     counts.cases += 1;
     counts.moves += moves;
     counts.steps += steps;
-    match number {
-        0..=3 => counts.verdicts[number as usize] += 1,
-        _ => counts.refusals[(number - 16) as usize] += 1,
+    match refusal & 255 {
+        0 => counts.verdicts[verdict as usize] += 1,
+        number => counts.refusals[number as usize] += 1,
+    }
+    Ok(())
+}
+
+/// A run that is lent too few words for its answer: it must say so, and do nothing.
+fn compare_short(subject: &impl Subject, case: &Case, room: usize) -> Result<(), String> {
+    let (mut values, mut out) = (case.values.clone(), [7; RUN_OUT]);
+    let refusal = subject.run(&case.problem, &mut values, &case.tape, case.budget, &mut out[..room]);
+    if refusal != TOO_SHORT || values != case.values || out != [7; RUN_OUT] {
+        return Err(format!("with {room} words for the answer it is {}", refusal_shown(refusal)));
     }
     Ok(())
 }
@@ -191,12 +196,20 @@ fn compare_damaged(
 }
 
 /// An answer in words.
-fn shown(number: u32, [moves, steps, words, place]: [u64; 4]) -> String {
-    let name = match number {
-        0..=3 => format!("verdict {}", Verdict::ALL[number as usize].name()),
-        _ => format!("number {number} (refused {} at {place})", i64::from(number) - 16),
+fn shown(refusal: u64, [verdict, moves, steps, words]: [u64; RUN_OUT]) -> String {
+    let name = match Verdict::ALL.get(verdict as usize) {
+        Some(verdict) => verdict.name().into(),
+        None => format!("number {verdict}"),
     };
-    format!("{name} moves {moves} steps {steps} words {words}")
+    let counts = format!("verdict {name} moves {moves} steps {steps} words {words}");
+    format!("{} with {counts}", refusal_shown(refusal))
+}
+
+fn refusal_shown(refusal: u64) -> String {
+    match refusal {
+        0 => "accepted".into(),
+        refused => format!("refused {} at {}", refused & 255, refused >> 8),
+    }
 }
 
 /// Writes a case's three files into a folder, as `tvrun` reads them.

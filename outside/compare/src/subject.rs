@@ -4,9 +4,9 @@ use model::{Set, Spot};
 
 pub trait Subject: Sync {
     /// 0, or a refusal's number + 256 × its place.
-    fn check(&self, problem: &[u8]) -> u32;
-    /// 0 to 3 for a verdict, 16 + a refusal's number; `out` takes moves, steps, words, place.
-    fn run(&self, problem: &[u8], values: &mut [u64], tape: &[u64], budget: u16, out: &mut [u64; 4]) -> u32;
+    fn check(&self, problem: &[u8]) -> u64;
+    /// The same; `out` takes verdict, moves, steps and words.
+    fn run(&self, problem: &[u8], values: &mut [u64], tape: &[u64], budget: u16, out: &mut [u64]) -> u64;
     /// 0 for nothing, 1 for a value in `out`, 2 for refused arguments.
     fn pick(&self, asked: &Asked, set: Set, proposal: u64, out: &mut [u64; 1]) -> u8;
     /// 0, 1, or 2 for refused arguments.
@@ -42,11 +42,11 @@ impl Asked {
 pub struct Library;
 
 impl Subject for Library {
-    fn check(&self, problem: &[u8]) -> u32 {
+    fn check(&self, problem: &[u8]) -> u64 {
         walumpeh::raw::check(problem)
     }
 
-    fn run(&self, problem: &[u8], values: &mut [u64], tape: &[u64], budget: u16, out: &mut [u64; 4]) -> u32 {
+    fn run(&self, problem: &[u8], values: &mut [u64], tape: &[u64], budget: u16, out: &mut [u64]) -> u64 {
         walumpeh::raw::run(problem, values, tape, budget, out)
     }
 
@@ -63,11 +63,11 @@ impl Subject for Library {
 pub struct Model;
 
 impl Subject for Model {
-    fn check(&self, problem: &[u8]) -> u32 {
+    fn check(&self, problem: &[u8]) -> u64 {
         model::calls::check(problem)
     }
 
-    fn run(&self, problem: &[u8], values: &mut [u64], tape: &[u64], budget: u16, out: &mut [u64; 4]) -> u32 {
+    fn run(&self, problem: &[u8], values: &mut [u64], tape: &[u64], budget: u16, out: &mut [u64]) -> u64 {
         model::calls::run(problem, values, tape, budget, out)
     }
 
@@ -84,11 +84,11 @@ impl Subject for Model {
 pub struct Plain;
 
 impl Subject for Plain {
-    fn check(&self, problem: &[u8]) -> u32 {
+    fn check(&self, problem: &[u8]) -> u64 {
         plain::calls::check(problem)
     }
 
-    fn run(&self, problem: &[u8], values: &mut [u64], tape: &[u64], budget: u16, out: &mut [u64; 4]) -> u32 {
+    fn run(&self, problem: &[u8], values: &mut [u64], tape: &[u64], budget: u16, out: &mut [u64]) -> u64 {
         plain::calls::run(problem, values, tape, budget, out)
     }
 

@@ -16,6 +16,8 @@ enum Wrong {
     InventsAStep,
     NamesNoPlace,
     AcceptsWidth65,
+    TakesAShortAnswer,
+    KeepsOldCounts,
     ForgetsToGoRound,
     PassesTheProposalOver,
     JudgesEssentialByWidth,
@@ -27,7 +29,7 @@ enum Wrong {
 use Wrong::*;
 
 impl Subject for Wrong {
-    fn check(&self, problem: &[u8]) -> u32 {
+    fn check(&self, problem: &[u8]) -> u64 {
         let checked = Model.check(problem);
         match self {
             RefusesEverything => 1,
@@ -37,29 +39,24 @@ impl Subject for Wrong {
         }
     }
 
-    fn run(&self, problem: &[u8], values: &mut [u64], tape: &[u64], budget: u16, out: &mut [u64; 4]) -> u32 {
+    fn run(&self, problem: &[u8], values: &mut [u64], tape: &[u64], budget: u16, out: &mut [u64]) -> u64 {
         let before = values.to_vec();
-        let number = match self {
+        let refusal = match self {
             CountsAfterTheFirstMove => Model.run(problem, values, tape, budget.min(1), out),
             _ => Model.run(problem, values, tape, budget, out),
         };
         match self {
-            RefusesEverything => 17,
-            AlwaysSpent if number < 4 => 1,
-            WritesNoValues => {
-                values.copy_from_slice(&before);
-                number
-            }
-            CountsAfterTheFirstMove if number == 1 => {
-                out[0] = budget.into();
-                number
-            }
-            InventsAStep if number < 4 => {
-                (out[1], out[2]) = (out[1] + 1, out[2] + 2);
-                number
-            }
-            _ => number,
+            TakesAShortAnswer if refusal == 255 => return Model.check(problem),
+            _ if refusal == 255 => return refusal,
+            RefusesEverything => return 1,
+            AlwaysSpent if refusal == 0 => out[0] = 1,
+            WritesNoValues => values.copy_from_slice(&before),
+            CountsAfterTheFirstMove if out[0] == 1 => out[1] = budget.into(),
+            InventsAStep if refusal == 0 => (out[2], out[3]) = (out[2] + 1, out[3] + 2),
+            KeepsOldCounts if refusal != 0 => out[1] = 1,
+            _ => {}
         }
+        refusal
     }
 
     fn pick(&self, asked: &Asked, set: Set, proposal: u64, out: &mut [u64; 1]) -> u8 {
@@ -105,6 +102,8 @@ fn wrong_runs_are_caught() {
         InventsAStep,
         NamesNoPlace,
         AcceptsWidth65,
+        TakesAShortAnswer,
+        KeepsOldCounts,
     ]
     .into_iter()
     .enumerate()

@@ -22,6 +22,13 @@ pub enum Verdict {
 }
 
 impl Verdict {
+    pub const ALL: [Verdict; 4] = [Verdict::Model, Verdict::Spent, Verdict::Ended, Verdict::Closed];
+
+    /// The verdict of the library's number.
+    fn of(number: u64) -> Option<Verdict> {
+        Verdict::ALL.get(usize::try_from(number).ok()?).copied()
+    }
+
     /// The name that `tvrun` prints.
     pub fn name(self) -> &'static str {
         match self {
@@ -44,25 +51,16 @@ pub struct Answer {
 
 /// Whether a problem's bytes are accepted.
 pub fn check(problem: &[u8]) -> Result<(), Refusal> {
-    match raw::check(problem) {
-        0 => Ok(()),
-        refused => Err(Refusal { number: refused as u8, place: u64::from(refused >> 8) }),
-    }
+    Refusal::of(raw::check(problem))
 }
 
 /// A whole run. Only the variables' places of `values` are read; after a verdict the first N hold
 /// every node's value, and after a refusal none is changed.
 pub fn run(problem: &[u8], values: &mut [u64], tape: &[u64], budget: u16) -> Result<Answer, Refusal> {
-    let mut out = [0; 4];
-    let number = raw::run(problem, values, tape, budget, &mut out);
-    let [moves, steps, words, place] = out;
-    let verdict = match number {
-        0 => Verdict::Model,
-        1 => Verdict::Spent,
-        2 => Verdict::Ended,
-        3 => Verdict::Closed,
-        refused => return Err(Refusal { number: (refused - 16) as u8, place }),
-    };
+    let mut out = [0; raw::RUN_OUT];
+    Refusal::of(raw::run(problem, values, tape, budget, &mut out))?;
+    let [verdict, moves, steps, words] = out;
+    let verdict = Verdict::of(verdict).expect("a run that is not refused has a verdict");
     Ok(Answer { verdict, moves, steps, words })
 }
 

@@ -1,11 +1,12 @@
-//! The exported calls with the library's own numbers, on slices.
+//! The exported calls with the library's own numbers, on slices: outside/c/walumpeh.h says what each is
+//! told and answers.
 
 #[cfg(feature = "stub")]
 extern crate stub as _;
 
 mod calls {
     extern "C" {
-        pub fn wal_check(problem: *const u8, problem_len: usize) -> u32;
+        pub fn wal_check(problem: *const u8, problem_len: usize) -> u64;
         pub fn wal_run(
             problem: *const u8,
             problem_len: usize,
@@ -16,7 +17,7 @@ mod calls {
             budget: u16,
             out: *mut u64,
             out_len: usize,
-        ) -> u32;
+        ) -> u64;
         pub fn wal_pick(
             kind: u8,
             width: u32,
@@ -45,15 +46,21 @@ mod calls {
 /// Whether the model stands in for the proved library.
 pub const IS_STUB: bool = cfg!(feature = "stub");
 
+/// How many words a run needs for its answer: verdict, moves, steps and words.
+pub const RUN_OUT: usize = 4;
+
+/// The refusal of a call that is lent too few words for its answer.
+pub const TOO_SHORT: u64 = 255;
+
 /// 0 where the problem is accepted, else the refusal's number + 256 × its place.
-pub fn check(problem: &[u8]) -> u32 {
+pub fn check(problem: &[u8]) -> u64 {
     // SAFETY: the pointer and length are those of a slice, which is only read.
     unsafe { calls::wal_check(problem.as_ptr(), problem.len()) }
 }
 
-/// 0 model, 1 spent, 2 ended, 3 closed, or 16 + the refusal's number. `out` takes moves, steps,
-/// words and the refusal's place.
-pub fn run(problem: &[u8], values: &mut [u64], tape: &[u64], budget: u16, out: &mut [u64; 4]) -> u32 {
+/// 0, or the refusal's number + 256 × its place. `out` takes the verdict (0 model, 1 spent, 2 ended,
+/// 3 closed, 4 refused), moves, steps and words.
+pub fn run(problem: &[u8], values: &mut [u64], tape: &[u64], budget: u16, out: &mut [u64]) -> u64 {
     // SAFETY: the pointers and lengths are those of slices; the two that are written are borrowed
     // for this call alone.
     unsafe {

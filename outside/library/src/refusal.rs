@@ -1,6 +1,6 @@
 //! Refusals: number, place and meaning.
 
-use std::fmt::{Display, Formatter, Result};
+use std::fmt::{Display, Formatter};
 
 /// A refusal's number, 1 to 15, and its place: a node's id, a root's position, or 0.
 #[derive(Clone, Copy, Debug, PartialEq, Eq)]
@@ -21,6 +21,14 @@ pub enum Place {
 }
 
 impl Refusal {
+    /// The refusal that a call answers as number + 256 × place; 0 is none.
+    pub(crate) fn of(answer: u64) -> Result<(), Refusal> {
+        match answer {
+            0 => Ok(()),
+            refused => Err(Refusal { number: refused as u8, place: refused >> 8 }),
+        }
+    }
+
     pub fn at(self) -> Place {
         match self.number {
             7..=12 | 15 => Place::Node(self.place),
@@ -54,7 +62,7 @@ impl Refusal {
 
 /// `refused NUMBER at PLACE`, as tvrun prints it, what the place is, and the meaning.
 impl Display for Refusal {
-    fn fmt(&self, f: &mut Formatter) -> Result {
+    fn fmt(&self, f: &mut Formatter) -> std::fmt::Result {
         write!(f, "refused {} at {}", self.number, self.place)?;
         match self.at() {
             Place::Whole => write!(f, ": {}", self.meaning()),

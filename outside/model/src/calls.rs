@@ -2,37 +2,47 @@
 //! must answer.
 
 use crate::problem::read;
-use crate::{exact, ones, run as model_run, Answer, Kind, Operator, Outcome, Pair, Set, Spot};
+use crate::{exact, ones, run as model_run, Answer, Kind, Operator, Outcome, Pair, Refusal, Set, Spot};
 
 /// The words that describe a node's operands: widths, los, his and current values of a, b and c.
 pub const SPOT_WORDS: usize = 12;
 
+/// How many words a run's answer takes: verdict, moves, steps and words.
+pub const RUN_OUT: usize = 4;
+
+/// The refusal of a call that is lent too few words for its answer.
+pub const TOO_SHORT: u64 = 255;
+
 /// 0 where the problem is accepted, else the refusal's number + 256 × its place.
-pub fn check(problem: &[u8]) -> u32 {
-    match read(problem) {
-        Ok(_) => 0,
-        Err(refusal) => u32::from(refusal.number) + 256 * refusal.place as u32,
-    }
+pub fn check(problem: &[u8]) -> u64 {
+    read(problem).map_or_else(code, |_| 0)
 }
 
-/// The run's answer in numbers.
-pub fn run(problem: &[u8], values: &mut [u64], tape: &[u64], budget: u16, out: &mut [u64]) -> u32 {
+fn code(refusal: Refusal) -> u64 {
+    u64::from(refusal.number) + 256 * refusal.place as u64
+}
+
+/// The run's answer in numbers; nothing is done where `out` is too short for it.
+pub fn run(problem: &[u8], values: &mut [u64], tape: &[u64], budget: u16, out: &mut [u64]) -> u64 {
+    if out.len() < RUN_OUT {
+        return TOO_SHORT;
+    }
     numbers(&model_run(problem, values, tape, budget), out)
 }
 
-/// 0 model, 1 spent, 2 ended, 3 closed, or 16 + a refusal's number. `out` takes moves, steps, words
-/// and the refusal's place.
-pub fn numbers(answer: &Answer, out: &mut [u64]) -> u32 {
-    let (number, place) = match answer.outcome {
-        Outcome::Settled(verdict) => (verdict as u32, 0),
-        Outcome::Refused(refusal) => (16 + u32::from(refusal.number), refusal.place),
+/// 0, or the refusal's number + 256 × its place. `out` takes the verdict (0 model, 1 spent, 2 ended,
+/// 3 closed, 4 refused), moves, steps and words.
+pub fn numbers(answer: &Answer, out: &mut [u64]) -> u64 {
+    let (refusal, verdict) = match answer.outcome {
+        Outcome::Settled(verdict) => (0, verdict as u64),
+        Outcome::Refused(refusal) => (code(refusal), 4),
     };
-    out[..4].copy_from_slice(&[answer.moves, answer.steps, answer.words, place as u64]);
-    number
+    out[..RUN_OUT].copy_from_slice(&[verdict, answer.moves, answer.steps, answer.words]);
+    refusal
 }
 
-/// 1 with the value in `out[0]`, 0 where the set (0 inverse, 1 consistent) is empty, 2 where the
-/// arguments are not those of a node of an accepted problem.
+/// 1 with the value in `out[0]`, 0 where the set (0 inverse, else consistent) is empty, 2 where the
+/// arguments are not those of a node of an accepted problem, or `out` has no place.
 #[allow(clippy::too_many_arguments)]
 pub fn pick(
     kind: u8,
@@ -45,18 +55,14 @@ pub fn pick(
     which: u8,
     out: &mut [u64],
 ) -> u8 {
-    let set = match which {
-        0 => Set::Inverse,
-        1 => Set::Consistent,
-        _ => return 2,
-    };
-    let Some(spot) = spot(kind, width, low, words, position, target) else {
+    let set = if which == 0 { Set::Inverse } else { Set::Consistent };
+    let (Some(spot), Some(out)) = (spot(kind, width, low, words, position, target), out.first_mut()) else {
         return 2;
     };
     match exact::pick(&spot, set, position as usize, target, proposal) {
         None => 0,
         Some(value) => {
-            out[0] = value;
+            *out = value;
             1
         }
     }
@@ -87,10 +93,11 @@ pub fn words_of(spot: &Spot) -> [u64; SPOT_WORDS] {
 /// values that agree, zeros where the kind has no operand, and a target of the node's width.
 fn spot(kind: u8, width: u32, low: u32, words: &[u64], position: u32, target: u64) -> Option<Spot> {
     let kind = Kind::from_number(kind)?;
-    if words.len() != SPOT_WORDS || position as usize >= kind.operands() {
+    if position as usize >= kind.operands() {
         return None;
     }
-    let at = |group: usize, position: usize| words[3 * group + position];
+    // Words that are missing are 0.
+    let at = |group: usize, position: usize| words.get(3 * group + position).copied().unwrap_or(0);
     let unused = (kind.operands()..3).all(|position| (0..4).all(|group| at(group, position) == 0));
     let sized = (0..kind.operands()).all(|position| (1..=64).contains(&at(0, position)));
     if !unused || !sized || !(1..=64).contains(&width) || low > 64 || (kind != Kind::Extract && low != 0) {

@@ -2,34 +2,38 @@
 //! two are measured at the same work. Never inlined, as the library's are not.
 
 use crate::kind::EXTRACT;
-use crate::layout::{check as check_problem, operands};
+use crate::layout::{check as check_problem, operands, Refusal};
 use crate::mask;
 use crate::picking::{essential as is_essential, pick_consistent, pick_inverse, Spot};
 use crate::search::{run as run_problem, Outcome};
 
 /// 0 where the problem is accepted, else the refusal's number + 256 × its place.
 #[inline(never)]
-pub fn check(problem: &[u8]) -> u32 {
-    match check_problem(problem) {
-        Ok(_) => 0,
-        Err(refusal) => u32::from(refusal.number) + 256 * refusal.place as u32,
-    }
+pub fn check(problem: &[u8]) -> u64 {
+    check_problem(problem).map_or_else(code, |_| 0)
 }
 
-/// 0 model, 1 spent, 2 ended, 3 closed, or 16 + the refusal's number. `out` takes moves, steps,
-/// words and the refusal's place.
+fn code(refusal: Refusal) -> u64 {
+    u64::from(refusal.number) + 256 * refusal.place as u64
+}
+
+/// 0, or the refusal's number + 256 × its place; 255 where `out` is too short. It takes the verdict
+/// (0 model, 1 spent, 2 ended, 3 closed, 4 refused), moves, steps and words.
 #[inline(never)]
-pub fn run(problem: &[u8], values: &mut [u64], tape: &[u64], budget: u16, out: &mut [u64; 4]) -> u32 {
-    let answer = run_problem(problem, values, tape, budget);
-    let (number, place) = match answer.outcome {
-        Outcome::Settled(verdict) => (verdict as u32, 0),
-        Outcome::Refused(refusal) => (16 + u32::from(refusal.number), refusal.place as u64),
+pub fn run(problem: &[u8], values: &mut [u64], tape: &[u64], budget: u16, out: &mut [u64]) -> u64 {
+    let Some(out) = out.first_chunk_mut() else {
+        return 255;
     };
-    *out = [answer.moves, answer.steps, answer.words, place];
-    number
+    let answer = run_problem(problem, values, tape, budget);
+    let (refusal, verdict) = match answer.outcome {
+        Outcome::Settled(verdict) => (0, verdict as u64),
+        Outcome::Refused(refusal) => (code(refusal), 4),
+    };
+    *out = [verdict, answer.moves, answer.steps, answer.words];
+    refusal
 }
 
-/// 1 with the value in `out`, 0 where the set (0 inverse, 1 consistent) is empty, 2 where the
+/// 1 with the value in `out`, 0 where the set (0 inverse, else consistent) is empty, 2 where the
 /// arguments are not those of a node.
 #[allow(clippy::too_many_arguments)]
 #[inline(never)]
@@ -51,8 +55,7 @@ pub fn pick(
     let p = proposal & mask(spot.widths[position]);
     let picked = match which {
         0 => pick_inverse(&spot, position, target, p),
-        1 => pick_consistent(&spot, position, target, p),
-        _ => return 2,
+        _ => pick_consistent(&spot, position, target, p),
     };
     match picked {
         None => 0,

@@ -9,7 +9,7 @@ use std::slice::{from_raw_parts, from_raw_parts_mut};
 /// # Safety
 /// The pointer and length are those of a slice.
 #[no_mangle]
-pub unsafe extern "C" fn wal_check(problem: *const u8, problem_len: usize) -> u32 {
+pub unsafe extern "C" fn wal_check(problem: *const u8, problem_len: usize) -> u64 {
     calls::check(from_raw_parts(problem, problem_len))
 }
 
@@ -26,7 +26,7 @@ pub unsafe extern "C" fn wal_run(
     budget: u16,
     out: *mut u64,
     out_len: usize,
-) -> u32 {
+) -> u64 {
     let problem = from_raw_parts(problem, problem_len);
     let values = from_raw_parts_mut(values, values_len);
     let tape = from_raw_parts(tape, tape_len);

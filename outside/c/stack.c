@@ -1,0 +1,95 @@
+/* Measures how much stack each call takes, on a problem of 1,024 nodes, and fails where one takes more
+   than the header says. Each call runs on a thread whose stack was filled with a mark beforehand.
+
+       cc -pthread -o stack outside/c/stack.c target/staticlib/libwalumpeh.a */
+#include "walumpeh.h"
+#include <pthread.h>
+#include <stdio.h>
+#include <stdlib.h>
+#include <string.h>
+
+enum { NODES = 1024, ROOTS = 256, LENGTH = 9 + 24 * NODES + 2 * ROOTS, WORDS = 100000 };
+enum { ROOM = 1 << 20, MARK = 0xa5 };
+
+static uint8_t problem[LENGTH] = {'T', 'B', 'V', 1, 0, NODES & 255, NODES >> 8, ROOTS & 255, ROOTS >> 8};
+static uint64_t values[NODES], tape[WORDS], out[WAL_RUN_OUT];
+static uint64_t spot[12] = {64, 64, 0, 0, 0, 0, ~0ull, ~0ull, 0, 3, 5, 0};
+
+static void put(int id, uint8_t kind, uint8_t width, int a, int b) {
+    uint8_t *node = problem + 9 + 24 * id;
+    node[0] = kind;
+    node[1] = width;
+    node[2] = a & 255, node[3] = a >> 8;
+    node[4] = b & 255, node[5] = b >> 8;
+    if (kind == WAL_VARIABLE) memset(node + 16, 255, 8);
+}
+
+/* x, then one operator after another over the last two nodes; then a comparison for each root. */
+static void fill(void) {
+    static const uint8_t kinds[] = {WAL_ADD, WAL_MUL, WAL_SHL, WAL_LSHR, WAL_XOR, WAL_AND};
+    put(0, WAL_VARIABLE, 64, 0, 0);
+    put(1, WAL_VARIABLE, 64, 0, 0);
+    for (int id = 2; id < NODES - ROOTS; id++) put(id, kinds[id % 6], 64, id - 1, id - 2);
+    for (int root = 0; root < ROOTS; root++) {
+        int id = NODES - ROOTS + root;
+        put(id, root % 2 ? WAL_EQ : WAL_BELOW, 1, id - ROOTS, id - ROOTS - 1);
+        problem[LENGTH - 2 * ROOTS + 2 * root] = id & 255;
+        problem[LENGTH - 2 * ROOTS + 2 * root + 1] = id >> 8;
+    }
+    for (int word = 0; word < WORDS; word++) tape[word] = 0x9e3779b97f4a7c15 * (uint64_t)word;
+}
+
+static void *nothing(void *none) { return none; }
+static void *check(void *none) {
+    if (wal_check(problem, LENGTH) != WAL_ACCEPTED) abort();
+    return none;
+}
+static void *run(void *none) {
+    if (wal_run(problem, LENGTH, values, NODES, tape, WORDS, 1000, out, WAL_RUN_OUT) != WAL_ACCEPTED) abort();
+    return none;
+}
+static void *picks(void *none) {
+    for (uint8_t kind = WAL_AND; kind <= WAL_BELOW; kind++)
+        for (uint32_t position = 0; position < 2; position++)
+            for (uint8_t which = 0; which < 2; which++)
+                if (wal_pick(kind, kind < WAL_EQ ? 64 : 1, 0, spot, 12, position, 1, 9, which, out, 1) > 1) abort();
+    return none;
+}
+static void *essential(void *none) {
+    for (uint8_t kind = WAL_AND; kind <= WAL_BELOW; kind++)
+        if (wal_essential(kind, kind < WAL_EQ ? 64 : 1, 0, spot, 12, 0, 1) > 1) abort();
+    return none;
+}
+
+/* How many bytes of its stack a thread writes to. */
+static size_t used(void *(*call)(void *)) {
+    unsigned char *stack = aligned_alloc(4096, ROOM);
+    pthread_attr_t attributes;
+    pthread_t thread;
+    memset(stack, MARK, ROOM);
+    if (pthread_attr_init(&attributes) || pthread_attr_setstack(&attributes, stack, ROOM) ||
+        pthread_create(&thread, &attributes, call, NULL) || pthread_join(thread, NULL))
+        abort();
+    size_t free_bytes = 0;
+    while (stack[free_bytes] == MARK) free_bytes++;
+    free(stack);
+    return ROOM - free_bytes;
+}
+
+int main(void) {
+    static const struct {
+        const char *name;
+        void *(*call)(void *);
+    } calls[] = {{"wal_check", check}, {"wal_run", run}, {"wal_pick", picks}, {"wal_essential", essential}};
+    int status = 0;
+    fill();
+    size_t before = used(nothing);
+    for (size_t at = 0; at < sizeof calls / sizeof *calls; at++) {
+        size_t taken = used(calls[at].call);
+        taken = taken > before ? taken - before : 0;
+        printf("%s: %zu bytes of stack\n", calls[at].name, taken);
+        if (taken > WAL_STACK) status = 1;
+    }
+    if (status) printf("more than the header's %d\n", WAL_STACK);
+    return status;
+}
