@@ -29,7 +29,7 @@ struct Line {
 }
 
 const STATUS: &str = "\
-Where a file is read, '-' is standard input.
+Where a file is read or written, '-' is standard input or output.
 Exit status: 0 done; 1 refused, or a file cannot be read or written; 2 the command line is not understood.
 run has more.";
 

@@ -7,11 +7,16 @@ use std::process::ExitCode;
 
 /// Prints a text whole.
 pub fn text(text: &str) -> Result<ExitCode, Fault> {
+    bytes(text.as_bytes())
+}
+
+/// Prints bytes as they are.
+pub fn bytes(bytes: &[u8]) -> Result<ExitCode, Fault> {
     if started::output_was_closed() {
         return Err(Fault::Told("standard output: closed".into()));
     }
     let mut output = std::io::stdout().lock();
-    match output.write_all(text.as_bytes()).and_then(|()| output.flush()) {
+    match output.write_all(bytes).and_then(|()| output.flush()) {
         Ok(()) => Ok(ExitCode::SUCCESS),
         Err(fault) if fault.kind() == ErrorKind::BrokenPipe => Err(Fault::Unheard),
         Err(fault) => Err(Fault::Told(format!("standard output: {fault}"))),

@@ -1,14 +1,16 @@
 //! Writing. Of several files all are written or none, as far as the system lets it be so: first all are
 //! opened, and all bytes written beside their targets; only then does anything change.
 //!
-//! A file of our own that nothing else links to is replaced as a whole, and keeps its mode. Whatever
-//! else a name leads to (a device, a pipe, another's file) is written in place. A symbolic link stays,
-//! and what it leads to is written. What is read-only is refused, to root as well.
+//! A file of our own that nothing else links to is replaced as a whole, and keeps its mode and group.
+//! Whatever else a name leads to (a device, a pipe, another's file) is written in place. A symbolic link
+//! stays, and what it leads to is written. What is read-only is refused, to root as well. `-` is standard
+//! output.
 
 use crate::fault::Fault;
+use crate::files::print;
 use std::fs::{File, Metadata, OpenOptions};
-use std::io::{ErrorKind, Result, Write};
-use std::os::unix::fs::MetadataExt;
+use std::io::{Error, ErrorKind, Result, Write};
+use std::os::unix::fs::{fchown, MetadataExt};
 use std::path::{Path, PathBuf};
 
 /// A file to be written.
@@ -19,14 +21,13 @@ pub struct Output<'a> {
 
 /// Writes all files. None of them may be one that was read, or another one of them.
 pub fn all(outputs: &[Output], inputs: &[&Path]) -> std::result::Result<(), Fault> {
-    let mut taken: Vec<(u64, u64)> = inputs.iter().filter_map(|path| identity(path)).collect();
-    let mut names: Vec<&Path> = inputs.to_vec();
+    let named = inputs.iter().filter(|path| **path != Path::new("-"));
+    let mut taken: Vec<Identity> = named.filter_map(|path| Identity::of(path)).collect();
     for output in outputs {
-        let own = identity(output.path);
-        if names.contains(&output.path) || own.is_some_and(|own| taken.contains(&own)) {
+        let own = Identity::of(output.path);
+        if own.as_ref().is_some_and(|own| taken.contains(own)) {
             return Err(Fault::at(output.path, "named for two things at once"));
         }
-        names.push(output.path);
         taken.extend(own);
     }
     let staged: Vec<Staged> = outputs
@@ -37,15 +38,38 @@ pub fn all(outputs: &[Output], inputs: &[&Path]) -> std::result::Result<(), Faul
 }
 
 /// Which regular file a name leads to.
-fn identity(path: &Path) -> Option<(u64, u64)> {
-    std::fs::metadata(path).ok().filter(Metadata::is_file).map(|file| (file.dev(), file.ino()))
+#[derive(PartialEq)]
+enum Identity {
+    Known { device: u64, number: u64 },
+    New(PathBuf),
+}
+
+impl Identity {
+    /// None of what may be named twice, as a device.
+    fn of(path: &Path) -> Option<Identity> {
+        match std::fs::metadata(path) {
+            Ok(file) => file.is_file().then(|| Identity::Known { device: file.dev(), number: file.ino() }),
+            Err(_) => {
+                let target = led_to(path).ok()?;
+                let folder = target.parent().filter(|folder| *folder != Path::new(""));
+                let folder = std::fs::canonicalize(folder.unwrap_or(Path::new("."))).ok()?;
+                Some(Identity::New(folder.join(target.file_name()?)))
+            }
+        }
+    }
 }
 
 /// What is written in place comes first, since that is what may still fail; a replacement that fails
 /// takes back those before it.
 fn finish(outputs: &[Output], mut staged: Vec<Staged>) -> std::result::Result<(), Fault> {
     for (output, staged) in outputs.iter().zip(&mut staged) {
-        staged.write_in_place(&output.bytes).map_err(|fault| Fault::at(output.path, fault))?;
+        match staged {
+            Staged::Printed => print::bytes(&output.bytes).map(|_| ())?,
+            Staged::InPlace(file) => {
+                write_over(file, &output.bytes).map_err(|fault| Fault::at(output.path, fault))?
+            }
+            Staged::Beside { .. } => {}
+        }
     }
     for at in 0..staged.len() {
         if let Err(fault) = staged[at].replace() {
@@ -56,8 +80,18 @@ fn finish(outputs: &[Output], mut staged: Vec<Staged>) -> std::result::Result<()
     Ok(())
 }
 
+/// The bytes in place of what is there.
+fn write_over(file: &mut File, bytes: &[u8]) -> Result<()> {
+    file.write_all(bytes)?;
+    if file.metadata()?.is_file() {
+        file.set_len(bytes.len() as u64)?;
+    }
+    Ok(())
+}
+
 /// A file that is ready to be written.
 enum Staged {
+    Printed,
     InPlace(File),
     /// The bytes are in `beside`, and move to `target`; what was there before is kept in `before`.
     Beside {
@@ -69,6 +103,9 @@ enum Staged {
 
 impl Staged {
     fn new(output: &Output) -> Result<Staged> {
+        if output.path == Path::new("-") {
+            return Ok(Staged::Printed);
+        }
         let known = match std::fs::metadata(output.path) {
             Err(fault) if fault.kind() == ErrorKind::NotFound => None,
             known => Some(known?),
@@ -82,10 +119,10 @@ impl Staged {
     /// Over what is there.
     fn over(output: &Output, known: Metadata) -> Result<Staged> {
         if known.is_dir() {
-            return Err(std::io::Error::other("is a folder"));
+            return Err(Error::other("is a folder"));
         }
         if known.permissions().readonly() {
-            return Err(std::io::Error::other("is read-only"));
+            return Err(Error::other("is read-only"));
         }
         let open = OpenOptions::new().write(true).open(output.path)?;
         // SAFETY: the call takes nothing and cannot fail.
@@ -96,7 +133,7 @@ impl Staged {
             return Ok(Staged::InPlace(open));
         }
         match Staged::beside(std::fs::canonicalize(output.path)?, &output.bytes, Some(known)) {
-            // The folder takes no new names, and the file can be written.
+            // The folder takes no new names, or the group cannot be kept; the file itself can be written.
             Err(fault) if fault.kind() == ErrorKind::PermissionDenied => Ok(Staged::InPlace(open)),
             staged => staged,
         }
@@ -105,21 +142,13 @@ impl Staged {
     fn beside(target: PathBuf, bytes: &[u8], known: Option<Metadata>) -> Result<Staged> {
         let (beside, mut file) = Temporary::new(&target)?;
         if let Some(known) = known {
+            if file.metadata()?.gid() != known.gid() {
+                fchown(&file, None, Some(known.gid()))?;
+            }
             file.set_permissions(known.permissions())?;
         }
         file.write_all(bytes)?;
         Ok(Staged::Beside { beside, target, before: None })
-    }
-
-    fn write_in_place(&mut self, bytes: &[u8]) -> Result<()> {
-        let Staged::InPlace(file) = self else {
-            return Ok(());
-        };
-        file.write_all(bytes)?;
-        if file.metadata()?.is_file() {
-            file.set_len(bytes.len() as u64)?;
-        }
-        Ok(())
     }
 
     fn replace(&mut self) -> Result<()> {

@@ -24,7 +24,7 @@ fn the_worked_example() {
 }
 
 #[test]
-fn a_problem_may_come_from_standard_input() {
+fn a_file_may_be_standard_input_or_output() {
     let at = At::example("stdin");
     let from = |line: &str| {
         let file = std::fs::File::open(at.path("problem.tbv")).unwrap();
@@ -32,6 +32,10 @@ fn a_problem_may_come_from_standard_input() {
     };
     assert_eq!(text(&from("check -").stdout), "accepted\n");
     assert_eq!(text(&from("run - start.bin tape.bin").stdout), ANSWER);
+    at.write("p.txt", at.printed("show problem.tbv"));
+    let text = std::fs::File::open(at.path("p.txt")).unwrap();
+    let built = at.command("build - -").stdin(text).output().unwrap();
+    assert_eq!((built.status.code(), built.stdout), (Some(0), at.read("problem.tbv")));
 }
 
 #[test]

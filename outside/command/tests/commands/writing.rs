@@ -25,9 +25,12 @@ fn a_mode_is_kept_and_nothing_else_is_touched() {
     std::fs::set_permissions(at.path("new.tbv"), Permissions::from_mode(0o640)).unwrap();
     at.write("new.tbv.part", "the user's own");
     at.write(".walumpeh-1-0", "the user's own");
-    let before = at.listing().len();
+    // Only root may give a file to any group.
+    let _ = std::os::unix::fs::chown(at.path("new.tbv"), None, Some(1));
+    let (before, group) = (at.listing().len(), at.path("new.tbv").metadata().unwrap().gid());
     at.prints("build p.txt new.tbv", "");
     assert_eq!((at.read("new.tbv"), mode(&at, "new.tbv")), (bytes, 0o640));
+    assert_eq!(at.path("new.tbv").metadata().unwrap().gid(), group);
     assert_eq!(at.read("new.tbv.part"), b"the user's own");
     assert_eq!(at.listing().len(), before);
 }
@@ -70,8 +73,10 @@ fn pipes_and_devices_are_written_in_place() {
     assert_eq!(reader.join().unwrap(), bytes);
     assert!(at.path("pipe").symlink_metadata().unwrap().file_type().is_fifo());
     at.prints("build p.txt /dev/null", "");
-    let output = at.run("build p.txt /dev/stdout");
-    assert_eq!((output.status.code(), output.stdout), (Some(0), bytes));
+    for to in ["/dev/stdout", "-"] {
+        let output = at.run(&format!("build p.txt {to}"));
+        assert_eq!((output.status.code(), output.stdout), (Some(0), bytes.clone()), "{to}");
+    }
     at.fails("build p.txt /dev/full", "/dev/full: No space left on device (os error 28)");
 }
 
@@ -95,11 +100,16 @@ fn no_file_is_named_for_two_things() {
     let (at, _) = folder("twice");
     let twice = "named for two things at once";
     at.fails("tape problem.tbv same.bin same.bin", &format!("same.bin: {twice}"));
+    at.fails("tape problem.tbv same.bin ./same.bin", &format!("./same.bin: {twice}"));
+    at.fails("tape problem.tbv - -", &format!("-: {twice}"));
     at.fails("tape problem.tbv start.bin start.bin", &format!("start.bin: {twice}"));
     at.fails("tape problem.tbv ./problem.tbv", &format!("./problem.tbv: {twice}"));
     at.fails("build p.txt p.txt", &format!("p.txt: {twice}"));
     symlink("p.txt", at.path("again.txt")).unwrap();
     at.fails("build p.txt again.txt", &format!("again.txt: {twice}"));
+    std::fs::hard_link(at.path("p.txt"), at.path("third.txt")).unwrap();
+    at.fails("build p.txt third.txt", &format!("third.txt: {twice}"));
+    at.prints("tape problem.tbv /dev/null /dev/null", "");
 }
 
 /// A limit on the size of files stops the writing, and leaves all as it was.
