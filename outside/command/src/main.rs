@@ -18,6 +18,7 @@ mod started;
 use clap::Parser;
 use commands::Command;
 use fault::Fault;
+use std::io::Write;
 use std::process::ExitCode;
 
 /// Search for values that meet bit-vector conditions, by a proved local search
@@ -37,7 +38,7 @@ fn main() -> ExitCode {
     let done = match Line::try_parse() {
         Ok(line) => line.command.run(),
         Err(error) if error.use_stderr() => {
-            eprint!("{error}");
+            tell(&error.to_string());
             return ExitCode::from(2);
         }
         // --help and --version
@@ -47,8 +48,13 @@ fn main() -> ExitCode {
         Ok(status) => status,
         Err(Fault::Unheard) => ExitCode::FAILURE,
         Err(Fault::Told(words)) => {
-            eprintln!("walumpeh: {words}");
+            tell(&format!("walumpeh: {words}\n"));
             ExitCode::FAILURE
         }
     }
+}
+
+/// Says something on standard error; where that cannot be, the status still tells.
+fn tell(words: &str) {
+    let _ = std::io::stderr().write_all(words.as_bytes());
 }

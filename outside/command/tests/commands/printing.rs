@@ -38,6 +38,16 @@ fn an_output_that_nobody_reads_ends_quietly() {
 }
 
 #[test]
+fn faults_that_nobody_reads_keep_their_status() {
+    let at = At::example("unsaid");
+    for (line, status) in [("check none", "1\n"), ("nonsense", "2\n")] {
+        let script = format!("{{ sleep 0.2; '{WALUMPEH}' {line} 2>&1; echo $? >status; }} | true");
+        Command::new("sh").args(["-c", &script]).current_dir(&at.folder).status().unwrap();
+        assert_eq!(text(&at.read("status")), status, "{line}");
+    }
+}
+
+#[test]
 fn a_full_output_is_told() {
     let at = At::example("full");
     for line in PRINTING {
