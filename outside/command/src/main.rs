@@ -23,7 +23,7 @@ use std::process::ExitCode;
 
 /// Search for values that meet bit-vector conditions, by a proved local search
 #[derive(Parser)]
-#[command(name = "walumpeh", version, after_help = STATUS, disable_help_subcommand = true)]
+#[command(name = "walumpeh", version, propagate_version = true, after_help = STATUS)]
 struct Line {
     #[command(subcommand)]
     command: Command,

@@ -20,7 +20,8 @@ use std::collections::HashMap;
 /// The problem that a text describes, or the line and what is wrong with it.
 pub fn parse(text: &str) -> Result<Problem, String> {
     let mut draft = Draft { builder: Builder::new(), ids: HashMap::new() };
-    for (index, line) in text.lines().enumerate() {
+    // Some editors begin a text with a mark of its encoding.
+    for (index, line) in text.trim_start_matches('\u{feff}').lines().enumerate() {
         let words: Vec<&str> = line.split('#').next().unwrap_or("").split_whitespace().collect();
         draft.line(&words).map_err(|fault| format!("line {}: {fault}", index + 1))?;
     }
@@ -176,6 +177,7 @@ mod tests {
     fn the_worked_example() {
         let text = "x = var 4\nsix = const 4 0b01_10 # six\np = mul x six\n\ntwo = const 4 2\nok = eq p two\nroot ok\n";
         assert_eq!(parse(text), Ok(crate::worked_example()));
+        assert_eq!(parse(&format!("\u{feff}{}", text.replace('\n', "\r\n"))), Ok(crate::worked_example()));
     }
 
     #[test]

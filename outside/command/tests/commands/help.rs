@@ -23,6 +23,7 @@ fn every_command_has_help() {
             let help = at.printed(&format!("{command} {asked}"));
             assert!(help.contains(&format!("Usage: walumpeh {command}")), "{help}");
         }
+        assert!(at.printed(&format!("help {command}")).contains(&format!("Usage: walumpeh {command}")));
     }
     for (command, words) in [
         ("build", ["--rootless", "root ok"]),
@@ -42,6 +43,7 @@ fn the_version_is_said() {
     let at = At::new("version");
     at.prints("--version", concat!("walumpeh ", env!("CARGO_PKG_VERSION"), "\n"));
     at.prints("-V", concat!("walumpeh ", env!("CARGO_PKG_VERSION"), "\n"));
+    at.prints("tape --version", concat!("walumpeh-tape ", env!("CARGO_PKG_VERSION"), "\n"));
 }
 
 #[test]
