@@ -1,21 +1,14 @@
--- What the readers of a problem, of values and of words find: a node's kind and line, the budget and the tape.
-use mathlib.Core.Path.{_≡_, refl, ap, _∙_}
+-- What the readers of a problem, of values and of words find: a node's line, the budget and the tape.
+use mathlib.Core.Path.{_≡_, refl}
 use mathlib.Core.List.{List, [], _∷_}
 use Prim.Native.Nat.{ℕ, _-_}
 use native.Mathlib.Omega.{arith}
 use borrow.Author.Tests.{eq-eqb, ne-eqb}
-use lib.Dec.{lit<}
 use lib.ListN.{length, getD, take, drop, length-drop}
-use lib.Seq.{getD-take, getD-drop, take-all}
-use Rattle.problem.specs.Layout.{nodeStart, nodeOf, nodeAt}
+use lib.Seq.{take-all}
+use Rattle.problem.specs.Layout.{nodeAt}
 use Rattle.files.specs.Text.{variableLine, nodeLine}
 use Rattle.files.specs.Words.{budgetOf, tapeOf}
-
--- the first byte of a node's part
-pub kind-byte : (s : List ℕ) (i : ℕ) → nodeAt s i .kind ≡ getD s (nodeStart i) 0
-unfolding nodeAt nodeOf
-kind-byte s i =
-    getD-take 24 (drop (nodeStart i) s) 0 0 (lit< tt) ∙ getD-drop (nodeStart i) s 0 0 ∙ ap (λ (n : ℕ). getD s n 0) (omega arith)
 
 -- a variable's line is that of its value, and another node has none; k and v are what was read as kind and value
 pub line-of :

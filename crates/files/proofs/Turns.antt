@@ -1,17 +1,18 @@
 -- Loops that lay a list one element, or one line, at a time: what a turn adds, and what is laid at the end.
-use mathlib.Core.Path.{_≡_, refl, sym, ap, _∙_}
+use mathlib.Core.Path.{_≡_, sym, ap, _∙_}
 use mathlib.Core.List.{List, [], _∷_, _++_}
 use mathlib.Core.Logic.{⊎-elim}
 use Prim.Native.Nat.{ℕ, zero, suc, _+_, _-_, _*_, _/_, _≤_, _<_, min}
 use native.Mathlib.Omega.{arith}
 use native.Mathlib.Numerals.{add-one}
 use native.Mathlib.Nat.{eq-zero-or-pos, add-zero, add-suc}
-use lib.ListN.{length, getD, take, set, length-append}
+use lib.ListN.{length, getD, take, set}
 use lib.Seq.{take-suc, take-all}
 use Rattle.problem.specs.Layout.{le64}
 use Rattle.files.specs.Laid.{over, Laid}
 use Rattle.files.specs.Words.{wordsBelow, wordsOf, fileWords}
 use Rattle.files.specs.Text.{nodeLine, linesBelow}
+use Rattle.files.specs.laws.Enough.{length-words}
 use Rattle.files.specs.laws.Laid.{over-length, over-past, over-append, laid-one, laid-more, laid-taken}
 
 -- ---- the bytes of a text
@@ -39,12 +40,6 @@ unfolding linesBelow
 lines-turn s vs i l k = rw add-one (laid-more l k)
 
 -- ---- the words of a file
-
-length-words : (s : List ℕ) (n : ℕ) → length (wordsBelow s n) ≡ n
-unfolding wordsBelow
-length-words s zero = refl
-length-words s (suc n) =
-    omega (arith, length-append (wordsBelow s n) (le64 s (8 * n) ∷ []), length-words s n)
 
 words-next : (s : List ℕ) (i : ℕ) → wordsBelow s (i + 1) ≡ wordsBelow s i ++ le64 s (8 * i) ∷ []
 unfolding wordsBelow

@@ -3,5 +3,6 @@ pub mod Laid
 pub mod Words
 pub mod Text
 pub mod Told
+pub mod inner
 pub mod promises
 pub mod laws

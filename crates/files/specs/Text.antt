@@ -8,13 +8,12 @@ use Prim.Native.String.{String}
 use Prim.Native.String as String
 use lib.Dec.{ltb, eqb}
 use lib.ListN.{getD}
-use Rattle.problem.specs.declared.Refusal.{Refusal}
 use Rattle.problem.specs.Layout.{nodeCount, nodeAt}
 use Rattle.search.specs.declared.Verdict.{Verdict}
 use Rattle.search.specs.declared.Outcome.{Outcome}
 use Rattle.search.specs.declared.Outcome.the-variants.{Refused, Settled}
 use Rattle.search.specs.declared.Answer.{Answer}
-use Rattle.search.specs.Answers.{name}
+use Rattle.search.specs.Answers.{numberOf, placeOf, name}
 
 -- the bytes of a text, whose characters are all ASCII
 unfoldable pub ascii : String → List ℕ
@@ -43,8 +42,8 @@ unfoldable pub nameOf : Verdict → List ℕ
 nameOf v = ascii (name v)
 
 -- "`refused NUMBER at PLACE`"
-unfoldable pub refusedLine : Refusal → List ℕ
-refusedLine r = labelled "refused " (r .number) ++ labelled " at " (r .place) ++ ascii "\n"
+unfoldable pub refusedLine : Outcome → List ℕ
+refusedLine o = labelled "refused " (numberOf o) ++ labelled " at " (placeOf o) ++ ascii "\n"
 
 -- "`verdict NAME moves M steps S words W`"
 unfoldable pub verdictLine : Answer → Verdict → List ℕ
@@ -67,7 +66,7 @@ linesBelow s vs (suc i) = linesBelow s vs i ++ nodeLine s vs i
 
 -- by what the answer holds
 unfoldable pub linesOf : List ℕ → List ℕ → Answer → Outcome → List ℕ
-linesOf s vs a (Refused r) = refusedLine r
+linesOf s vs a (Refused r) = refusedLine (Refused r)
 linesOf s vs a (Settled v) = verdictLine a v ++ linesBelow s vs (nodeCount s)
 
 -- what is printed of an answer a to the problem s, with the values vs handed back

@@ -1,9 +1,14 @@
--- Document 01: "`start.bin` (64-bit words, one per node, at most 1,024; those present are the places lent) and `tape.bin` (first
--- word modulo 65,536 is the budget, 0 if absent; up to 1,023 further words are the tape). Words are little-endian."
+-- Document 01: "`tvrun` reads `problem.tbv` (at most 25,098 bytes of it), `start.bin` (64-bit words, one per node, at most 1,024;
+-- those present are the places lent) and `tape.bin` (first word modulo 65,536 is the budget, 0 if absent; up to 1,023 further
+-- words are the tape). Words are little-endian."
 use mathlib.Core.List.{List, [], _∷_, _++_}
 use Prim.Native.Nat.{ℕ, zero, suc, _*_, _/_, _%_}
 use lib.ListN.{length, getD, take, drop}
 use Rattle.problem.specs.Layout.{le64}
+
+-- the bytes of `problem.tbv` that count: "at most 25,098 bytes of it"
+unfoldable pub fileProblem : List ℕ → List ℕ
+fileProblem s = take 25098 s
 
 -- the first n words of the bytes s
 unfoldable pub wordsBelow : List ℕ → ℕ → List ℕ

@@ -1,14 +1,16 @@
 // The lines of an answer, as document 01 has `tvrun` print them.
 ghost use mathlib.Core.Path.{_≡_};
-ghost use Prim.Native.Nat.{_≤_};
+ghost use Prim.Native.Nat.{_+_, _*_, _≤_};
 ghost use lib.ListN.{length, getD};
-ghost use Rattle.problem.specs.Layout.{nodeAt};
 ghost use Rattle.files.specs.Laid.{Laid};
+ghost use Rattle.search.specs.declared.Outcome.the-variants.{Refused};
 ghost use Rattle.files.specs.Text.{nameOf, refusedLine, verdictLine, variableLine, nodeLine, linesBelow, printed};
+ghost use Rattle.files.specs.inner.Told.{NodesThere};
 use crate::text::put_bytes;
 use crate::text::put_decimal;
 use crate::text::put_labelled;
 use problem::Refusal;
+use problem::node_at;
 use problem::node_count;
 use search::Answer;
 use search::Outcome;
@@ -16,7 +18,7 @@ use search::Verdict;
 
 // `refused NUMBER at PLACE`
 fn put_refusal(out: &mut [u8], refusal: Refusal) -> usize
-    ensures { λ r. ⌜ Laid (refusedLine refusal) 0 (now (out .entry)) (now (out .exit)) r ⌝ }
+    ensures { λ r. ⌜ Laid (refusedLine (Refused refusal)) 0 (now (out .entry)) (now (out .exit)) r ⌝ }
 {
     let next = put_labelled(out, 0, b"refused ", refusal.number as u64);
     let next = put_labelled(out, next, b" at ", refusal.place as u64);
@@ -58,18 +60,6 @@ fn put_variable(out: &mut [u8], at: usize, id: u16, value: u64) -> usize
     put_bytes(out, next, b"\n")
 }
 
-// The kind of node i, and 0 where no byte is.
-fn kind_at(problem: &[u8], i: u16) -> u8
-    ensures { λ r. ⌜ r ≡ nodeAt (now (problem .entry)) i .kind ⌝ }
-{
-    let from = 9 + 24 * (i as usize);
-    if from < problem.len() {
-        problem[from]
-    } else {
-        0
-    }
-}
-
 // The value at place i, and 0 where no place is.
 fn value_at(values: &[u64], i: u16) -> u64
     ensures { λ r. ⌜ r ≡ getD (now (values .entry)) i 0 ⌝ }
@@ -80,10 +70,11 @@ fn value_at(values: &[u64], i: u16) -> u64
 
 // Node i's line: a variable has one.
 fn put_node(out: &mut [u8], at: usize, problem: &[u8], values: &[u64], i: u16) -> usize
-    requires { ⌜ at ≤ length (now out) ⌝ }
+    requires { ⌜ (at ≤ length (now out)) × (9 + 24 * i + 24 ≤ length (now problem)) ⌝ }
     ensures { λ r. ⌜ Laid (nodeLine (now (problem .entry)) (now (values .entry)) i) at (now (out .entry)) (now (out .exit)) r ⌝ }
 {
-    if kind_at(problem, i) == 0 {
+    let node = node_at(problem, i);
+    if node.kind == 0 {
         return put_variable(out, at, i, value_at(values, i));
     }
     at
@@ -91,7 +82,7 @@ fn put_node(out: &mut [u8], at: usize, problem: &[u8], values: &[u64], i: u16) -
 
 // The lines of all variables, by id.
 fn put_nodes(out: &mut [u8], at: usize, problem: &[u8], values: &[u64], count: u16) -> usize
-    requires { ⌜ at ≤ length (now out) ⌝ }
+    requires { ⌜ (at ≤ length (now out)) × (9 + 24 * count ≤ length (now problem)) ⌝ }
     ensures { λ r. ⌜ Laid (linesBelow (now (problem .entry)) (now (values .entry)) count) at (now (out .entry)) (now (out .exit)) r ⌝ }
 {
     let mut next = at;
@@ -104,7 +95,8 @@ fn put_nodes(out: &mut [u8], at: usize, problem: &[u8], values: &[u64], count: u
 }
 
 // Puts what is printed of an answer at the start of out, as much of it as fits, and answers how many bytes that is.
-pub fn text_of(problem: &[u8], values: &[u64], answer: Answer, out: &mut [u8]) -> usize
+pub(crate) fn text_of(problem: &[u8], values: &[u64], answer: Answer, out: &mut [u8]) -> usize
+    requires { ⌜ NodesThere (now problem) answer ⌝ }
     ensures { λ r. ⌜ Laid (printed (now (problem .entry)) (now (values .entry)) answer) 0 (now (out .entry)) (now (out .exit)) r ⌝ }
 {
     let outcome = answer.outcome;

@@ -3,6 +3,9 @@
 ghost use Prim.Native.Nat.{_-_, _≤_};
 ghost use lib.ListN.{length};
 ghost use Rattle.tvrun.specs.Reading.{AtMost};
+use files::PROBLEM_ROOM;
+use files::TEXT_ROOM;
+use files::WORDS_ROOM;
 use libc::STDERR_FILENO;
 use libc::STDOUT_FILENO;
 
@@ -76,27 +79,34 @@ fn load(name: &[u8], buf: &mut [u8]) -> Reading
     Reading::Bytes(n)
 }
 
-// Prints the answer of the run. 43,104 bytes hold the longest text.
-fn print(problem: &[u8], start: &[u8], tape: &[u8]) {
-    let mut out = [0u8; 43104];
-    let n = files::output(problem, start, tape, &mut out);
+// Prints the answer of the run, from what was read of the three files.
+fn print(
+    problem: &[u8; PROBLEM_ROOM],
+    p: usize,
+    start: &[u8; WORDS_ROOM],
+    s: usize,
+    tape: &[u8; WORDS_ROOM],
+    t: usize,
+) {
+    let mut out = [0u8; TEXT_ROOM];
+    let n = files::output(problem, p, start, s, tape, t, &mut out);
     if !io::write_all(STDOUT_FILENO, &out[..n]) {
         complain(b"standard output", b": cannot be written\n");
     }
 }
 
 fn main() {
-    let mut problem = [0u8; 25098];
+    let mut problem = [0u8; PROBLEM_ROOM];
     let Reading::Bytes(p) = load(b"problem.tbv", &mut problem) else {
         return;
     };
-    let mut start = [0u8; 8192];
+    let mut start = [0u8; WORDS_ROOM];
     let Reading::Bytes(s) = load(b"start.bin", &mut start) else {
         return;
     };
-    let mut tape = [0u8; 8192];
+    let mut tape = [0u8; WORDS_ROOM];
     let Reading::Bytes(t) = load(b"tape.bin", &mut tape) else {
         return;
     };
-    print(&problem[..p], &start[..s], &tape[..t]);
+    print(&problem, p, &start, s, &tape, t);
 }

@@ -15,7 +15,6 @@ use Rattle.operators.specs.Table.{kindCount, shapeOf, RuleMet, ruleHolds}
 use Rattle.operators.specs.laws.Table.{rule-met, rule-tested}
 use Rattle.picking.specs.declared.spot.Spot.{Spot}
 use Rattle.picking.specs.Spot.{at, positions, Slot}
-use Rattle.picking.specs.laws.Positions.{few-positions}
 use Rattle.walumpeh.specs.Offered.{Empty, Offered, Short, Placed, Slots, Headed}
 use Rattle.walumpeh.specs.laws.Rules.{low-law}
 use Rattle.walumpeh.proofs.Tests.{told, both, where-most, at-most, less, same, is-true, as-fact}

@@ -1,4 +1,5 @@
 -- The run's answer, and its text.
+use Rattle.files.specs.promises.Whole.{nodes-there}
 use borrow.Author.Needs.{needs}
 use Rattle.files.proofs.tell.Statement.{statement}
 use Rattle.files.proofs.tell.Tie as tie
@@ -13,7 +14,7 @@ run-requires : tie.Need-run-requires
 run-requires c κs = search needs
 
 text-of-requires : tie.Need-text-of-requires
-text-of-requires c κs = search needs
+text-of-requires c κs = nodes-there (c .before .before .before .before .run .ensures)
 
 same-length : tie.Need-same-length
 same-length c = search needs

@@ -6,7 +6,7 @@ use Prim.Native.Nat.{ℕ, suc, _+_, _-_, _≤_, _<_, min}
 use native.Mathlib.Omega.{arith}
 use native.Mathlib.Nat.{eq-zero-or-pos, add-zero, add-suc, suc-add}
 use lib.ListN.{length, take, drop, set, length-take, length-append}
-use lib.Seq.{length-sets, set-out, take-at, take-nil, length-take-le}
+use lib.Seq.{length-sets, set-out, take-at, drop-at, take-nil, length-take-le}
 use Rattle.files.specs.Laid.{over, Laid}
 
 -- ---- over
@@ -89,6 +89,13 @@ pub laid-taken : {xs b a : List ℕ} {n : ℕ} → Laid xs 0 b a n → take n a 
 laid-taken {xs} {b} {a} {n} l =
     let e : length (take (length b) xs) ≡ n = omega (arith, l .upto, length-take (length b) xs) in
     rw (l .places, over-front xs b) (take-at (take (length b) xs) (drop (length xs) b) n e)
+
+-- where all of it has room, what lies behind is as it was
+pub laid-rest : {xs b a : List ℕ} {n : ℕ} → Laid xs 0 b a n → length xs ≤ length b → drop n a ≡ drop n b
+laid-rest {xs} {b} {a} {n} l h =
+    let e : length (take (length b) xs) ≡ n = omega (arith, l .upto, length-take (length b) xs) in
+    let f : length xs ≡ n = omega (arith, l .upto) in
+    rw (l .places, over-front xs b) (drop-at (take (length b) xs) (drop (length xs) b) n e ∙ ap (λ (k : ℕ). drop k b) f)
 
 -- what is laid determines the places and the next place
 pub laid-unique : {xs b a a′ : List ℕ} {i n n′ : ℕ} → Laid xs i b a n → Laid xs i b a′ n′ → (a ≡ a′) × (n ≡ n′)

@@ -16,6 +16,7 @@ use Rattle.search.specs.declared.Verdict.the-variants.{Model, Spent, Ended, Clo
 use Rattle.search.specs.declared.Outcome.{Outcome}
 use Rattle.search.specs.declared.Outcome.the-variants.{Refused, Settled}
 use Rattle.search.specs.declared.Answer.{Answer}
+use Rattle.search.specs.Answers.{numberOf, placeOf}
 use Rattle.files.specs.Text.{ascii, digit, decimalIn, decimal, labelled, nameOf, refusedLine, verdictLine, variableLine, nodeLine, linesBelow, linesOf, printed}
 
 -- ---- a number's digits
@@ -79,7 +80,7 @@ unfolding decimal
 decimal-says n h = said-in 19 n (omega arith)
 
 -- ---- what is printed, by what the answer holds
-pub printed-refused : (s vs : List ℕ) (a : Answer) (r : Refusal) → a .outcome ≡ Refused r → printed s vs a ≡ refusedLine r
+pub printed-refused : (s vs : List ℕ) (a : Answer) (r : Refusal) → a .outcome ≡ Refused r → printed s vs a ≡ refusedLine (Refused r)
 unfolding printed linesOf
 printed-refused s vs a r e = ap (linesOf s vs a) e
 
@@ -131,9 +132,9 @@ short-name Spent = record { most = omega arith }
 short-name Ended = record { most = omega arith }
 short-name Closed = record { most = omega arith }
 
-short-refused : (r : Refusal) → Short 53 (refusedLine r)
+short-refused : (o : Outcome) → Short 53 (refusedLine o)
 unfolding refusedLine ascii
-short-refused r = both (both (short-labelled "refused " (r .number)) (short-labelled " at " (r .place))) (short-text "\n")
+short-refused o = both (both (short-labelled "refused " (numberOf o)) (short-labelled " at " (placeOf o))) (short-text "\n")
 
 short-verdict : (a : Answer) (v : Verdict) → Short 96 (verdictLine a v)
 unfolding verdictLine ascii
@@ -171,6 +172,6 @@ unfolding printed linesOf
 short-printed s vs a few = by (a .outcome) refl
   where
     by : (o : Outcome) → a .outcome ≡ o → Short 43104 (linesOf s vs a o)
-    by (Refused r) e = record { most = omega (arith, short-refused r .most) }
+    by (Refused r) e = record { most = omega (arith, short-refused (Refused r) .most) }
     by (Settled v) e =
         let l = both (short-verdict a v) (short-lines s vs (nodeCount s)) in record { most = omega (arith, l .most, few v e) }

@@ -1,13 +1,14 @@
 -- The contract of each public function determines its result and every lent place: any two outcomes that it allows are equal.
-use mathlib.Core.Path.{_≡_, sym, _∙_}
-use mathlib.Core.List.{List}
+use mathlib.Core.Path.{_≡_, sym, ap, ap₂, _∙_}
+use mathlib.Core.List.{List, _++_}
 use Prim.Native.Nat.{ℕ}
-use Rattle.search.specs.declared.Answer.{Answer}
+use lib.ListN.{length, take, drop, take-append-drop}
 use Rattle.search.specs.promises.Determined.{called-unique}
 use Rattle.files.specs.Laid.{Laid}
-use Rattle.files.specs.Words.{wordsOf, budgetOf, tapeOf}
+use Rattle.files.specs.Words.{fileProblem, wordsOf, budgetOf, tapeOf}
 use Rattle.files.specs.Text.{printed}
-use Rattle.files.specs.Told.{Output}
+use Rattle.files.specs.Told.{Output, Prints}
+use Rattle.files.specs.laws.Enough.{read-itself}
 use Rattle.files.specs.laws.Laid.{laid-unique}
 
 -- where the contract is an equation
@@ -27,17 +28,22 @@ budget-of-determined words r s = equal
 pub tape-of-determined : (words r s : List ℕ) → r ≡ tapeOf words → s ≡ tapeOf words → r ≡ s
 tape-of-determined words r s = equal
 
-pub text-of-determined :
-    (problem values : List ℕ) (answer : Answer) (before a a′ : List ℕ) (r r′ : ℕ)
-    → Laid (printed problem values answer) 0 before a r
-    → Laid (printed problem values answer) 0 before a′ r′
-    → (a ≡ a′) × (r ≡ r′)
-text-of-determined problem values answer before a a′ r r′ = laid-unique
+-- of the same files
+one-output : {P S T before a a′ : List ℕ} {r r′ : ℕ} → Output P S T before a r → Output P S T before a′ r′ → (a ≡ a′) × (r ≡ r′)
+one-output {P} {before = before} {a = a} {a′ = a′} {r = r} {r′ = r′} t t′ =
+    let same = called-unique (t .called) (t′ .called) in
+    let texts = ap₂ (printed (fileProblem P)) (same .values) (same .answers) in
+    let counts : r ≡ r′ = t .count ∙ ap length texts ∙ sym (t′ .count) in
+    let first : take r a ≡ take r′ a′ = t .text ∙ texts ∙ sym (t′ .text) in
+    let others : drop r a ≡ drop r′ a′ = t .rest ∙ ap (λ (k : ℕ). drop k before) counts ∙ sym (t′ .rest) in
+    (sym (take-append-drop r a) ∙ ap₂ _++_ first others ∙ take-append-drop r′ a′, counts)
 
 pub output-determined :
-    (problem start tape before a a′ : List ℕ) (r r′ : ℕ)
-    → Output problem start tape before a r
-    → Output problem start tape before a′ r′
+    (problem : List ℕ) (p : ℕ) (start : List ℕ) (s : ℕ) (tape : List ℕ) (t : ℕ) (before a a′ : List ℕ) (r r′ : ℕ)
+    → Prints problem p start s tape t before a r
+    → Prints problem p start s tape t before a′ r′
     → (a ≡ a′) × (r ≡ r′)
-output-determined problem start tape before a a′ r r′ t t′ =
-    let same = called-unique (t .called) (t′ .called) in laid-unique (rw (same .values, same .answers) at (t .text)) (t′ .text)
+output-determined problem p start s tape t before a a′ r r′ x y =
+    let P = read-itself problem p in
+    let S = read-itself start s in
+    let T = read-itself tape t in one-output (x .of-files _ _ _ P S T) (y .of-files _ _ _ P S T)

@@ -1,20 +1,17 @@
 -- The text lies in the buffer.
-use Rattle.files.specs.laws.Laid.{laid-counts}
+use Rattle.files.specs.promises.Whole.{prints-inside, prints-counts}
 use borrow.Author.Needs.{needs}
 use Rattle.tvrun.proofs.print.Statement.{statement}
 use Rattle.tvrun.proofs.print.Tie as tie
-
-slice-aggregate-output : tie.Need-slice-aggregate-output
-slice-aggregate-output c = search needs
 
 output-requires : tie.Need-output-requires
 output-requires c κs = search needs
 
 array-share-prefix-out : tie.Need-array-share-prefix-out
-array-share-prefix-out c = search needs
+array-share-prefix-out c = prints-inside (c .output .ensures)
 
 slice-aggregate-write-all : tie.Need-slice-aggregate-write-all
-slice-aggregate-write-all c = laid-counts (c .before .before .output .ensures .text)
+slice-aggregate-write-all c = prints-counts (c .before .output .ensures)
 
 write-all-requires : tie.Need-write-all-requires
 write-all-requires c κs = search needs
@@ -38,7 +35,6 @@ pub print-spec : {M : Type 1} → statement M
 print-spec =
     tie.close
     (tie.spec
-    slice-aggregate-output
     output-requires
     array-share-prefix-out
     slice-aggregate-write-all

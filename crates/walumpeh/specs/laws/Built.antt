@@ -6,7 +6,7 @@ use Prim.Native.Nat.{ℕ, zero, suc, _/_, _%_, _^_, _<_}
 use native.Mathlib.Omega.{arith}
 use lib.Dec.{T, ltb, ltb→lt}
 use lib.Ieee.Fits.{and-l, and-r}
-use lib.ListN.{length, getD}
+use lib.ListN.{getD}
 use Rattle.problem.specs.declared.layout.Node.{Node}
 use Rattle.problem.specs.Layout.{le16, le32, le64, nodeCount, rootCount, nodeOf, nodeAt}
 use Rattle.problem.specs.inner.Facts.{HeaderFacts}

@@ -4,7 +4,7 @@ use mathlib.Core.Bool.{_||_}
 use Prim.Native.Nat.{ℕ, _+_, _≤_, _<_}
 use native.Mathlib.Omega.{arith}
 use native.Mathlib.Decide.{decLe}
-use lib.Dec.{T, leb, eqb, eqb→eq, leb→le}
+use lib.Dec.{leb, eqb, eqb→eq, leb→le}
 use Rattle.words.specs.laws.Cases.{every-at}
 use Rattle.operators.specs.declared.table.Rule.{Rule}
 use Rattle.operators.specs.declared.table.Rule.the-variants.{Free, One, Both, Equal, Choice, Sum, Part}

@@ -17,10 +17,10 @@ abbrev μ-loop : tie.MeasureT-loop
 
 loop-holds : tie.Need-loop-holds Inv-loop μ-loop
 unfolding linesBelow
-loop-holds c = (omega arith, laid-none _ _ (c .before .before .before .pre))
+loop-holds c = (omega arith, laid-none _ _ (c .before .before .before .pre .0))
 
 put-node-requires : tie.Need-put-node-requires Inv-loop μ-loop
-put-node-requires c κs = laid-inside (c .before .before .loop .inv .1)
+put-node-requires c κs = (laid-inside (c .before .before .loop .inv .1), omega arith)
 
 add-i : tie.Need-add-i Inv-loop μ-loop
 add-i c = omega arith

@@ -1,6 +1,7 @@
 -- The lines by what the answer holds: a refusal, or a verdict and then the variables.
 use Rattle.files.specs.laws.Laid.{laid-more}
 use Rattle.files.specs.laws.Text.{printed-refused, printed-settled}
+use native.Mathlib.Omega.{arith}
 use borrow.Author.Needs.{needs}
 use Rattle.files.proofs.lines.text_of.Statement.{statement}
 use Rattle.files.proofs.lines.text_of.Tie as tie
@@ -21,7 +22,7 @@ node-count-requires : tie.Need-node-count-requires
 node-count-requires c κs = search needs
 
 put-nodes-requires : tie.Need-put-nodes-requires
-put-nodes-requires c κs = search needs
+put-nodes-requires c κs = (search needs, omega (arith, c .before .before .before .before .before .before .before .before .before .before .before .before .pre .there _ (c .before .before .before .before .before .before .before .outcome2 .given .1)))
 
 same-length : tie.Need-same-length
 same-length c = search needs
