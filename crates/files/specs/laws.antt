@@ -2,3 +2,4 @@
 pub mod Enough
 pub mod Laid
 pub mod Text
+pub mod Whole

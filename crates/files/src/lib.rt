@@ -22,7 +22,7 @@ pub const PROBLEM_ROOM: usize = 25098;
 // The bytes of 1,024 words: `start.bin`'s "at most 1,024", and of `tape.bin` the budget and "up to 1,023 further words".
 pub const WORDS_ROOM: usize = 8192;
 
-// Room for the longest text (specs/promises/Whole).
+// Room for the longest text (specs/laws/Whole).
 pub const TEXT_ROOM: usize = 43104;
 
 // Runs the problem from the values lent, with the words of `tape.bin`, and puts the answer's lines at the start of out.

@@ -1,6 +1,6 @@
 -- The fronts are what was read, which is enough, and the whole text has room.
 use native.Mathlib.Omega.{arith}
-use Rattle.files.specs.promises.Whole.{told-prints}
+use Rattle.files.specs.laws.Whole.{told-prints}
 use borrow.Author.Needs.{needs}
 use Rattle.files.proofs.output.Statement.{statement}
 use Rattle.files.proofs.output.Tie as tie

@@ -1,5 +1,5 @@
 -- The run's answer, and its text.
-use Rattle.files.specs.promises.Whole.{nodes-there}
+use Rattle.files.specs.laws.Whole.{nodes-there}
 use borrow.Author.Needs.{needs}
 use Rattle.files.proofs.tell.Statement.{statement}
 use Rattle.files.proofs.tell.Tie as tie

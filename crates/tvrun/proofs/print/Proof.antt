@@ -1,5 +1,5 @@
 -- The text lies in the buffer.
-use Rattle.files.specs.promises.Whole.{prints-inside, prints-counts}
+use Rattle.files.specs.laws.Whole.{prints-inside, prints-counts}
 use borrow.Author.Needs.{needs}
 use Rattle.tvrun.proofs.print.Statement.{statement}
 use Rattle.tvrun.proofs.print.Tie as tie
