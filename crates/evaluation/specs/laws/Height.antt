@@ -6,7 +6,7 @@ use native.Mathlib.Omega.{arith}
 use native.Mathlib.Nat.{not-suc-le-zero, lt-suc-self, le-antisymm}
 use native.Mathlib.Decide.{ℕ-discrete, decLe}
 use Rattle.evaluation.specs.Problem.{Prob, count, arg}
-use Rattle.evaluation.specs.Height.{Chain, Chain.ends, Chain.link, Under, Longest}
+use Rattle.evaluation.specs.Height.{Chain, Chain.ends, Chain.link, Longest}
 use Rattle.evaluation.specs.inner.Good.{Good}
 use Rattle.evaluation.specs.laws.Decide.{Some}
 

@@ -12,17 +12,15 @@ use lib.ListN.{length, getD}
 use Rattle.words.specs.Agree.{Agrees}
 use Rattle.words.specs.laws.Agree.{lo-within, within-hi, within-antisym}
 use Rattle.words.specs.laws.Pick.{pick-self}
-use Rattle.picking.specs.declared.spot.Three.{Three}
 use Rattle.picking.specs.declared.spot.Spot.{Spot}
 use Rattle.picking.specs.Spot.{at, put, positions, Other, value, Essential, NoneEssential, Consistent, Candidate}
-use Rattle.evaluation.specs.Problem.{Prob, three, count, arg, Variable, spotOf, spot, pairLo, pairHi}
+use Rattle.evaluation.specs.Problem.{Prob, count, arg, Variable, spotOf, spot, pairLo, pairHi}
 use Rattle.search.specs.Step.{Follows, Follows.consistent, Step, Step.followed, goes}
 use Rattle.search.specs.Run.{sets, Walk, Walk.arrives, Walk.onward}
 use Rattle.evaluation.specs.Values.{Evaluated, NodesAgree}
 use Rattle.evaluation.specs.Height.{Chain, Chain.ends, Chain.link}
 use Rattle.evaluation.specs.inner.Good.{Good}
 use Rattle.picking.specs.laws.Positions.{few-positions, put-same}
-use Rattle.evaluation.specs.laws.Positions.{at-three}
 use Rattle.evaluation.specs.laws.Decide.{Some, dec-some, all-or-some, Listed, listed, lists-length, Stands, lists-find}
 use Rattle.search.specs.laws.Candidates.{dec-essential, dec-candidate}
 use Rattle.evaluation.specs.laws.Nodes.{variable, constant, inner, which, at-column, operands, value-constant, value-operator, value-same, operand-node, width-at}

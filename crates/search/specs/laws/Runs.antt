@@ -2,14 +2,15 @@
 -- of the values handed back, of the budget and of the tape.
 use mathlib.Core.Path.{_≡_, refl, sym, ap, _∙_, subst}
 use mathlib.Core.Logic.{_↔_}
-use mathlib.Core.Bool.{Bool, true, false}
+use mathlib.Core.Bool.{Bool, true, false, _||_}
 use mathlib.Core.List.{List}
 use Prim.Native.Nat.{ℕ, _+_, _*_, _≤_, _<_}
 use Prim.Native.String.{String}
 use native.Mathlib.Omega.{arith}
 use native.Mathlib.Decide.{ℕ-discrete}
 use lib.ListN.{length, getD, set, length-set}
-use lib.Text.{eqt}
+use lib.Dec.{T}
+use lib.Text.{eqt, eqt-refl}
 use lib.Seq.{getD-set-same, getD-set-other}
 use Rattle.words.specs.laws.Agree.{within-hi, within-le}
 use Rattle.operators.specs.declared.fixed.Pair.{Pair}
@@ -17,7 +18,7 @@ use Rattle.operators.specs.inner.Ready.{Agreeing}
 use Rattle.search.specs.declared.Verdict.{Verdict}
 use Rattle.search.specs.declared.Outcome.{Outcome}
 use Rattle.search.specs.declared.Answer.{Answer}
-use Rattle.search.specs.Answers.{name}
+use Rattle.search.specs.Answers.{name, said}
 use Rattle.evaluation.specs.Problem.{Prob, evaluate}
 use Rattle.search.specs.Run.{AllOne, ClosedRoot, Run, Run.model, Run.spent, Run.ended, Run.moved, Run.held, Whole, Whole.closed, Whole.searched}
 use Rattle.evaluation.specs.Values.{VariablesAgree, NodesAgree}
@@ -114,6 +115,45 @@ called-name Verdict.Closed = refl
 pub same-name : (v u : Verdict) → name v ≡ name u → v ≡ u
 same-name v u e = sym (called-name v) ∙ ap called e ∙ called-name u
 
+-- two texts that are one; of two literals that are not, this is absurd
+pub same-text : {x y : String} → x ≡ y → T (eqt x y)
+same-text {x} e = subst (λ (y : String). T (eqt x y)) e (eqt-refl x)
+
+-- what a run says that is not closed
+abbrev searches : String → Bool
+searches x = eqt x "model" || eqt x "spent" || eqt x "ended"
+
+run-says :
+    {P : Prob} {B : ℕ} {vs ws : List ℕ} {m s : ℕ} {out : List ℕ} {a : Answer}
+    → Run P B vs ws m s out a
+    → T (searches (said (a .outcome)))
+run-says (model y) = tt
+run-says (spent x b) = tt
+run-says (ended x b k) = tt
+run-says (moved x b k r) = run-says r
+run-says (held x b k r) = run-says r
+
+pub says-other :
+    {P : Prob} {B : ℕ} {vs ws : List ℕ} {m s : ℕ} {out : List ℕ} {a : Answer} {x : String}
+    → Run P B vs ws m s out a
+    → said (a .outcome) ≡ x
+    → T (searches x)
+says-other r q = subst (λ (x : String). T (searches x)) q (run-says r)
+
+pub whole-closed :
+    {P : Prob} {B : ℕ} {start ws out : List ℕ} {a : Answer}
+    → Whole P B start ws out a
+    → (said (a .outcome) ≡ "closed") ↔ ClosedRoot P
+whole-closed (closed c) = (λ _. c, λ _. refl)
+whole-closed (searched x r) = (λ q. absurd (says-other r q), λ c. absurd (x c))
+
+-- how a verdict leaves the budget B after m moves
+abbrev pub Leaves : ℕ → ℕ → Verdict → Type 0
+Leaves B m Verdict.Model = Unit {0}
+Leaves B m Verdict.Spent = B ≤ m
+Leaves B m Verdict.Ended = m < B
+Leaves B m Verdict.Closed = Unit {0}
+
 -- the verdicts by number, to tell model from the others
 abbrev number : Verdict → ℕ
 number Verdict.Model = 0
@@ -131,6 +171,7 @@ pub record Concluded (P : Prob) (B m s left : ℕ) (out : List ℕ) (a : Answer)
   pub settled : a .outcome ≡ Outcome.Settled verdict
   pub model : (verdict ≡ Verdict.Model) ↔ AllOne P out
   pub counts : a .words ≡ a .moves + 2 * a .steps
+  pub leaves : Leaves B (a .moves) verdict
   pub budget : m ≤ B → a .moves ≤ B
   pub tape : a .words ≤ m + 2 * s + left
 
@@ -138,9 +179,10 @@ module _ (P : Prob) (B : ℕ) where
   concluded-here :
       (m s left : ℕ) (out : List ℕ) (v : Verdict)
       → (v ≡ Verdict.Model) ↔ AllOne P out
+      → Leaves B m v
       → Concluded P B m s left out (record { moves = m; steps = s; words = m + 2 * s; outcome = Outcome.Settled v })
-  concluded-here m s left out v e =
-      record { verdict = v; settled = refl; model = e; counts = refl; budget = λ h. h; tape = omega arith }
+  concluded-here m s left out v e l =
+      record { verdict = v; settled = refl; model = e; counts = refl; leaves = l; budget = λ h. h; tape = omega arith }
 
   -- after a move more
   concluded-on :
@@ -155,6 +197,7 @@ module _ (P : Prob) (B : ℕ) where
         settled = c .settled;
         model = c .model;
         counts = c .counts;
+        leaves = c .leaves;
         budget = λ _. c .budget (omega arith);
         tape = omega (arith, c .tape);
       }
@@ -163,9 +206,9 @@ module _ (P : Prob) (B : ℕ) where
       {vs ws : List ℕ} {m s : ℕ} {out : List ℕ} {a : Answer}
       → Run P B vs ws m s out a
       → Concluded P B m s (length ws) out a
-  run-concluded {vs} {ws} {m} {s} (model y) = concluded-here m s (length ws) vs Verdict.Model (λ _. y, λ _. refl)
-  run-concluded {vs} {ws} {m} {s} (spent x b) = concluded-here m s (length ws) vs Verdict.Spent (not-model Verdict.Spent (omega arith) x)
-  run-concluded {vs} {ws} {m} {s} (ended x b k) = concluded-here m s (length ws) vs Verdict.Ended (not-model Verdict.Ended (omega arith) x)
+  run-concluded {vs} {ws} {m} {s} (model y) = concluded-here m s (length ws) vs Verdict.Model (λ _. y, λ _. refl) tt
+  run-concluded {vs} {ws} {m} {s} (spent x b) = concluded-here m s (length ws) vs Verdict.Spent (not-model Verdict.Spent (omega arith) x) b
+  run-concluded {vs} {ws} {m} {s} (ended x b k) = concluded-here m s (length ws) vs Verdict.Ended (not-model Verdict.Ended (omega arith) x) b
   run-concluded {vs} {ws} {m} {s} (moved {ws′ = ws′} {s′ = s′} x b k r) =
       concluded-on m s s′ ws ws′ b (move-spends P vs k) (run-concluded r)
   run-concluded {vs} {ws} {m} {s} (held {ws′ = ws′} {s′ = s′} x b k r) =
@@ -192,4 +235,5 @@ whole-concluded P g B {start} {ws} (closed c) room va =
     concluded-here P B 0 0 (length ws) (evaluate P start) Verdict.Closed
     (not-model Verdict.Closed (omega arith)
     (closed-none P g (evaluate P start) (every-node P g (evaluate P start) (kept-start P g start room va .values)) c))
+    tt
 whole-concluded P g B (searched c r) room va = run-concluded P B r

@@ -1,10 +1,11 @@
 -- What is promised of `run`, as theorems over all that its contract allows (`Called`): demands 1, 2 and 3, and that what
 -- inner places held before has no bearing.
-use mathlib.Core.Path.{_≡_, refl, sym, ap, _∙_}
+use mathlib.Core.Path.{_≡_, refl, sym, ap, _∙_, subst}
 use mathlib.Core.Logic.{_↔_}
 use mathlib.Core.List.{List, [], _++_}
 use Prim.Native.Nat.{ℕ, _+_, _*_, _^_, _≤_, _<_}
 use native.Mathlib.Omega.{arith}
+use native.Mathlib.Nat.{le-antisymm}
 use native.Mathlib.Decide.{decLt}
 use lib.ListN.{length, getD, length-append}
 use lib.Seq.{ext-getD}
@@ -17,7 +18,7 @@ use Rattle.search.specs.declared.Outcome.{Outcome}
 use Rattle.search.specs.declared.Answer.{Answer}
 use Rattle.search.specs.Answers.{numberOf, placeOf, name, said}
 use Rattle.evaluation.specs.Problem.{Prob, problem, Variable, evaluate}
-use Rattle.search.specs.Run.{AllOne, answer, Whole, Whole.closed, Whole.searched}
+use Rattle.search.specs.Run.{AllOne, ClosedRoot, answer, Whole, Whole.closed, Whole.searched}
 use Rattle.search.specs.Call.{refusals, refused, Called, Called.refuses, Called.runs}
 use Rattle.evaluation.specs.Values.{Evaluated, NodesAgree}
 use Rattle.search.specs.Reach.{Solution, apart}
@@ -26,7 +27,7 @@ use Rattle.evaluation.specs.inner.Good.{Good}
 use Rattle.evaluation.specs.laws.Good.{good-of}
 use Rattle.evaluation.specs.laws.Values.{length-evaluate, evaluate-above, evaluate-variable, evaluate-fixed, evaluated-same}
 use Rattle.evaluation.specs.laws.Pairs.{every-node}
-use Rattle.search.specs.laws.Runs.{Kept, whole-kept, same-name, Concluded, whole-concluded}
+use Rattle.search.specs.laws.Runs.{Kept, whole-kept, same-name, whole-closed, Leaves, Concluded, whole-concluded}
 use Rattle.evaluation.specs.laws.Height.{longest, longest-is, longest-unique}
 use Rattle.search.specs.laws.Found.{found}
 use Rattle.search.specs.promises.Accepted.{Accepts, accepted-start}
@@ -62,9 +63,9 @@ clash p q = let z : _≡_ {A = ℕ} 0 1 = cc in omega arith
 same-outcome : {r r′ : Refusal} → Outcome.Refused r ≡ Outcome.Refused r′ → r ≡ r′
 same-outcome p = cc
 
--- an outcome that is a verdict is called model exactly if it is that verdict
-model-said : {o : Outcome} {v : Verdict} → o ≡ Outcome.Settled v → (said o ≡ "model") ↔ (v ≡ Verdict.Model)
-model-said {v = v} q = (λ e. same-name v Verdict.Model (sym (ap said q) ∙ e), λ e. ap said q ∙ ap name e)
+-- an outcome that is a verdict is called by the name of another exactly if it is that one
+is-called : {o : Outcome} {v : Verdict} (u : Verdict) → o ≡ Outcome.Settled v → (said o ≡ name u) ↔ (v ≡ u)
+is-called {v = v} u q = (λ e. same-name v u (sym (ap said q) ∙ e), λ e. ap said q ∙ ap name e)
 
 -- ---- demand 1
 
@@ -100,11 +101,15 @@ demand-1 {s} {start} (runs e w) =
 
 -- ---- demand 2
 
--- the answer says model exactly when every root is 1 under the values handed back; "After a verdict the first N places hold
+-- the answer says model exactly when every root is 1 under the values handed back, closed exactly when a root is fixed at 0,
+-- spent only where the budget is used up, and ended only where it is not; "After a verdict the first N places hold
 -- every node's value under the final variables; later places are untouched"; every value agrees with its pair; "words =
 -- moves + 2 x steps", within the budget and the tape
 pub record Demand2 (s start ws : List ℕ) (B : ℕ) (out : List ℕ) (a : Answer) : Type 0 where
   pub model : (said (a .outcome) ≡ "model") ↔ AllOne (problem s) out
+  pub closed : (said (a .outcome) ≡ "closed") ↔ ClosedRoot (problem s)
+  pub spent : said (a .outcome) ≡ "spent" → a .moves ≡ B
+  pub ended : said (a .outcome) ≡ "ended" → a .moves < B
   pub evaluated : Evaluated (problem s) out
   pub agrees : NodesAgree (problem s) out
   pub places : length out ≡ length start
@@ -120,12 +125,17 @@ pub demand-2 :
     → Demand2 s start ws B out a
 unfolding problem
 demand-2 (refuses r e) t = absurd (clash refl (t .is))
-demand-2 {s} {start} {out = out} (runs e w) t =
+demand-2 {s} {start} {B = B} {out = out} {a = a} (runs e w) t =
     let k = kept s start e w in
     let c = concluded s start e w in
-    let said-so = model-said (c .settled) in
+    let is-model = is-called Verdict.Model (c .settled) in
+    let leaves : (u : Verdict) → said (a .outcome) ≡ name u → Leaves B (a .moves) u =
+    λ u h. subst (Leaves B (a .moves)) (is-called u (c .settled) .0 h) (c .leaves) in
     record {
-      model = (λ h. c .model .0 (said-so .0 h), λ y. said-so .1 (c .model .1 y));
+      model = (λ h. c .model .0 (is-model .0 h), λ y. is-model .1 (c .model .1 y));
+      closed = whole-closed w;
+      spent = λ h. le-antisymm (c .budget (omega arith)) (leaves Verdict.Spent h);
+      ended = leaves Verdict.Ended;
       evaluated = k .values .evaluated;
       agrees = every-node (problem s) (good s start e) out (k .values);
       places = k .long;
