@@ -2,9 +2,11 @@
 use mathlib.Core.Path.{_≡_}
 use mathlib.Core.Bool.{Bool, true, false}
 use Prim.Native.Nat.{ℕ, _^_, _≤_, _<_}
+use lib.Dec.{ltb}
 use Rattle.operators.specs.Table.{kindCount, shapeOf}
 use Rattle.picking.specs.declared.spot.Spot.{Spot}
 use Rattle.picking.specs.Spot.{at, positions, Slot, Asked}
+use Rattle.evaluation.specs.Problem.{oneOf}
 
 -- a position that the kind does not have holds nothing
 pub record Empty (w lo hi v : ℕ) : Type 0 where
@@ -18,6 +20,19 @@ pub record Offered (S : Spot) (i t : ℕ) : Type 0 where
   pub asked : Asked S i t
   pub unused : (j : ℕ) → positions S ≤ j → j < 3 → Empty (at (S .widths) j) (at (S .los) j) (at (S .his) j) (at (S .current) j)
   pub low-unused : shapeOf (S .kind) .fields ≤ positions S → S .low ≡ 0
+
+-- a spot as the C interface tells it: low is the lowest bit of an extract, and 0 for the other kinds
+abbrev pub plain : Spot → Spot
+plain S =
+    record {
+      kind = S .kind;
+      width = S .width;
+      low = oneOf (ltb (positions S) (shapeOf (S .kind) .fields)) (S .low) 0;
+      widths = S .widths;
+      los = S .los;
+      his = S .his;
+      current = S .current;
+    }
 
 -- ---- what the tests inside decide
 
