@@ -5,6 +5,7 @@ pub mod Cases
 pub mod Consist
 pub mod Decides
 pub mod Less
+pub mod Marks
 pub mod Meet
 pub mod Modular
 pub mod Mul

@@ -1,11 +1,14 @@
 -- The contract of each public function determines its result: any two results that it allows are equal.
 use mathlib.Core.Path.{_≡_, sym, _∙_}
 use mathlib.Core.Bool.{Bool}
+use mathlib.Core.List.{List}
 use Prim.Native.Nat.{ℕ, _*_, _%_, _^_, max}
 use Rattle.words.specs.declared.found.Found.{Found}
 use Rattle.words.specs.Agree.{Agrees}
 use Rattle.words.specs.inner.Decides.{Decides}
 use Rattle.words.specs.laws.Decides.{decides-unique}
+use Rattle.words.specs.inner.Marks.{Marked, withMark, Lowest}
+use Rattle.words.specs.laws.Marks.{lowest-unique}
 use Rattle.words.specs.inner.Words.{less, lesser, WordInverse, over, Top, Tail}
 use Rattle.words.specs.laws.Modular.{inverse-unique}
 use Rattle.words.specs.Pick.{FirstFrom, Pick, Picked, Between}
@@ -58,6 +61,16 @@ first-between-determined lo hi least most = first-unique (Between (Agrees lo hi)
 
 pub pick-between-determined : (lo hi least most p : ℕ) (r s : Found) → Picked (Between (Agrees lo hi) least most) p r → Picked (Between (Agrees lo hi) least most) p s → r ≡ s
 pick-between-determined lo hi least most = picked-unique (Between (Agrees lo hi) least most)
+
+-- ---- marks
+pub mark-determined : (l : List ℕ) (n : ℕ) (r s : List ℕ) → r ≡ withMark l n → s ≡ withMark l n → r ≡ s
+mark-determined l n r s = equal
+
+pub marked-determined : (l : List ℕ) (n : ℕ) (r s : Bool) → Decides (Marked l n) r → Decides (Marked l n) s → r ≡ s
+marked-determined l n = decides-unique (Marked l n)
+
+pub lowest-determined : (l : List ℕ) (from r s : ℕ) → Lowest l from r → Lowest l from s → r ≡ s
+lowest-determined l from r s = lowest-unique l
 
 -- ---- modular
 pub wrapping-mul-determined : (a b r s : ℕ) → r ≡ a * b % 2 ^ 64 → s ≡ a * b % 2 ^ 64 → r ≡ s
