@@ -1,7 +1,8 @@
--- Document 01, "Refusal numbers, in order of checking", 1 to 13: the lines of the table as lists, and the first that is given.
+-- Document 01, "Refusal numbers, in order of checking", 1 to 13, and document 02's 16 after them: the lines of the table as lists,
+-- and the first that is given.
 use Prim.Native.Nat.{ℕ, zero, suc, _^_}
 use mathlib.Core.List.{List, [], _∷_}
-use mathlib.Core.Bool.{Bool, cond, not, _&&_, _||_}
+use mathlib.Core.Bool.{Bool, false, cond, not, _&&_, _||_}
 use lib.ListN.{length, getD}
 use lib.Dec.{ltb, leb, eqb}
 use lib.Bits.{bitAnd}
@@ -109,6 +110,23 @@ rootLines s j = (13, leb (nodeCount s) (rootAt s j) || not (eqb (widthAt s (root
 unfoldable pub rootFault : List ℕ → ℕ → Checked
 rootFault s j = firstOf j (rootLines s j)
 
--- "7 to 12 are tried node by node in ascending id, all six on one node before the next node; 13 by root in file order"
+-- whether an id stands among the roots before root j
+unfoldable pub rootBefore : List ℕ → ℕ → ℕ → Bool
+rootBefore s zero id = false
+rootBefore s (suc j) id = rootBefore s j id || eqb (rootAt s j) id
+
+-- 16 "a root id that occurred earlier in the file is refused, at the later position" (document 02, R-5), of root j
+unfoldable pub repeatLines : List ℕ → ℕ → List Line
+repeatLines s j = (16, rootBefore s j (rootAt s j)) ∷ []
+
+unfoldable pub repeatFault : List ℕ → ℕ → Checked
+repeatFault s j = firstOf j (repeatLines s j)
+
+-- "7 to 12 are tried node by node in ascending id, all six on one node before the next node; 13 by root in file order"; 16 "after
+-- 13 has passed for all roots ..; first repeat in file order"
 unfoldable pub checked : List ℕ → Checked
-checked s = headerFault s then firstBelow (nodeFault s) (nodeCount s) then firstBelow (rootFault s) (rootCount s)
+checked s =
+    headerFault s
+    then firstBelow (nodeFault s) (nodeCount s)
+    then firstBelow (rootFault s) (rootCount s)
+    then firstBelow (repeatFault s) (rootCount s)

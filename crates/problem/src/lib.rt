@@ -1,10 +1,11 @@
-// Reading a problem, and the problem check: refusals 1 to 13 of document 01.
+// Reading a problem, and the problem check: refusals 1 to 13 of document 01 and 16 of document 02.
 // Callers write problem::check, problem::node_at: the modules are for the reader.
 ghost use mathlib.Core.Path.{_≡_};
 ghost use Rattle.problem.specs.Refusals.{checked};
 
 mod layout;
 mod refusals;
+mod repeats;
 
 pub use layout::Node;
 pub use layout::node_at;
@@ -20,6 +21,7 @@ use refusals::header_fault;
 pub use refusals::line;
 use refusals::nodes_fault;
 use refusals::roots_fault;
+use repeats::repeats_fault;
 
 // A refusal's number, and its place: a node's id, a root's position, or 0.
 pub struct Refusal {
@@ -33,8 +35,8 @@ pub enum Checked {
     Refused(Refusal),
 }
 
-// The problem check: accepted, or the first refusal of 1 to 13 and its place. The header is tried first, then the nodes
-// in ascending id, then the roots in file order.
+// The problem check: accepted, or the first refusal of 1 to 13 and 16 and its place. The header is tried first, then the nodes
+// in ascending id, then the roots in file order, and then once more for repeats.
 pub fn check(problem: &[u8]) -> Checked
     ensures { λ r. ⌜ r ≡ checked (now (problem .entry)) ⌝ }
 {
@@ -46,5 +48,10 @@ pub fn check(problem: &[u8]) -> Checked
     let Checked::Accepted = nodes else {
         return nodes;
     };
-    roots_fault(problem, root_count(problem))
+    let count = root_count(problem);
+    let roots = roots_fault(problem, count);
+    let Checked::Accepted = roots else {
+        return roots;
+    };
+    repeats_fault(problem, count)
 }

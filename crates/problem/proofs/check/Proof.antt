@@ -1,10 +1,11 @@
--- The header, the nodes and the roots: what the header's lines leave is long enough for every node.
+-- The header, the nodes, the roots and their repeats: what the header's lines leave is long enough for every node, and what 13
+-- leaves has a mark for every root.
 use mathlib.Core.Path.{sym, _∙_}
 use native.Mathlib.Omega.{arith}
 use denote.Ref.{now}
 use Rattle.problem.specs.inner.Facts.{HeaderFacts}
-use Rattle.problem.specs.laws.Facts.{header-accepted}
-use Rattle.problem.proofs.Parts.{at-header, at-node, at-root}
+use Rattle.problem.specs.laws.Facts.{header-accepted, ids-small}
+use Rattle.problem.proofs.Parts.{at-header, at-node, at-root, at-repeat}
 use borrow.Author.Needs.{needs}
 use Rattle.problem.proofs.check.Statement.{statement}
 use Rattle.problem.proofs.check.Tie as tie
@@ -48,12 +49,34 @@ root-count-requires c κs = search needs
 roots-fault-requires : tie.Need-roots-fault-requires
 roots-fault-requires c κs = search needs
 
+enum-told-5 : tie.Need-enum-told-5
+enum-told-5 c = search needs
+
+enum-told-6 : tie.Need-enum-told-6
+enum-told-6 c = search needs
+
 returns-3 : tie.Need-returns-3
 returns-3 c =
-    let q = c .before .before in
+    let q = c .before .before .before .before in
     let p = q .before .before .before .before in
     at-root _ _ (p .before .before .header-fault .ensures) (p .enum-told .given .1) _ (q .before .before .before .node-count .ensures) _
-    (q .before .before .nodes-fault .ensures) (q .enum-told3 .given .1) _ _ (c .before .root-count .ensures) (c .roots-fault .ensures)
+    (q .before .before .nodes-fault .ensures) (q .enum-told3 .given .1) _ (c .before .before .before .root-count .ensures) _
+    (c .before .before .roots-fault .ensures) _ (c .enum-told6 .given .1)
+
+repeats-fault-requires : tie.Need-repeats-fault-requires
+repeats-fault-requires c κs =
+    let p = c .before .before .before .before .before .before .before .before in
+    ids-small _ (sym (p .before .before .header-fault .ensures) ∙ p .enum-told .given .1) _
+    (sym (c .before .before .roots-fault .ensures) ∙ c .enum-told5 .given .1)
+
+returns-4 : tie.Need-returns-4
+returns-4 c =
+    let d = c .before in
+    let q = d .before .before .before .before in
+    let p = q .before .before .before .before in
+    at-repeat _ _ (p .before .before .header-fault .ensures) (p .enum-told .given .1) _ (q .before .before .before .node-count .ensures) _
+    (q .before .before .nodes-fault .ensures) (q .enum-told3 .given .1) _ (d .before .before .before .root-count .ensures) _
+    (d .before .before .roots-fault .ensures) (d .enum-told5 .given .1) _ (c .repeats-fault .ensures)
 
 pub check-spec : {M : Type 1} → statement M
 check-spec =
@@ -70,4 +93,8 @@ check-spec =
     returns-2
     root-count-requires
     roots-fault-requires
-    returns-3)
+    enum-told-5
+    enum-told-6
+    returns-3
+    repeats-fault-requires
+    returns-4)

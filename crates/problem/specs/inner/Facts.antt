@@ -1,4 +1,4 @@
--- What an accepted problem has, as facts for the layers above: no line of document 01's table of refusals, 1 to 13, is given.
+-- What an accepted problem has, as facts for the layers above: no line of the table of refusals, 1 to 13 and 16, is given.
 use Prim.Native.Nat.{ℕ, _^_, _≤_, _<_}
 use mathlib.Core.Path.{_≡_}
 use mathlib.Core.List.{List}
@@ -37,7 +37,7 @@ pub record NodeFacts (n : Node) (i wa wb wc : ℕ) : Type 0 where
   pub hi-fits : n .kind ≤ 1 → n .hi < 2 ^ n .width
   pub constant-fixed : n .kind ≡ 1 → n .lo ≡ n .hi
 
--- 1 to 13
+-- 1 to 13 and 16
 pub record Facts (s : List ℕ) : Type 0 where
   pub header : HeaderFacts s
   pub node :
@@ -46,3 +46,4 @@ pub record Facts (s : List ℕ) : Type 0 where
       → NodeFacts (nodeAt s i) i (widthAt s (nodeAt s i .a)) (widthAt s (nodeAt s i .b)) (widthAt s (nodeAt s i .c))
   pub root-below : (j : ℕ) → j < rootCount s → rootAt s j < nodeCount s
   pub root-bit : (j : ℕ) → j < rootCount s → widthAt s (rootAt s j) ≡ 1
+  pub roots-differ : (i j : ℕ) → i < j → j < rootCount s → rootAt s i ≡ rootAt s j → ⊥

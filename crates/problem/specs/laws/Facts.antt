@@ -1,9 +1,10 @@
 -- A problem is accepted exactly if it has the facts, and what the layers above draw from them.
-use mathlib.Core.Path.{_≡_, _∙_}
+use mathlib.Core.Path.{_≡_, refl, sym, subst, _∙_}
 use mathlib.Core.Bool.{false, not, _&&_, _||_}
 use mathlib.Core.List.{List}
-use mathlib.Core.Logic.{_↔_}
-use Prim.Native.Nat.{ℕ, _+_, _*_, _^_, _≤_, _<_}
+use mathlib.Core.Logic.{_↔_, ⊎-elim}
+use Prim.Native.Nat.{ℕ, zero, suc, _+_, _*_, _^_, _≤_, _<_}
+use native.Mathlib.Nat.{not-suc-le-zero, le-of-suc-le-suc, eq-or-lt-of-le}
 use native.Mathlib.Omega.{arith}
 use lib.Dec.{ltb, leb, eqb}
 use lib.ListN.{length, getD}
@@ -14,7 +15,7 @@ use Rattle.problem.specs.declared.Checked.{Checked}
 use Rattle.problem.specs.declared.Checked.the-variants.{Accepted}
 use Rattle.problem.specs.declared.layout.Node.{Node}
 use Rattle.problem.specs.Layout.{nodeCount, rootCount, nodeAt, widthAt, rootStart, rootAt}
-use Rattle.problem.specs.Refusals.{_then_, firstBelow, bitOutside, markWrong, operandAbove, strayField, pairBroken, headerLines, headerFault, nodeLines, faultOf, nodeFault, rootLines, rootFault, checked}
+use Rattle.problem.specs.Refusals.{_then_, firstBelow, bitOutside, markWrong, operandAbove, strayField, pairBroken, headerLines, headerFault, nodeLines, faultOf, nodeFault, rootLines, rootFault, rootBefore, repeatLines, repeatFault, checked}
 use Rattle.problem.specs.inner.Facts.{HeaderFacts, NodeFacts, Facts}
 use Rattle.problem.specs.laws.Tests.{lt-yes, lt-no, le-yes, le-no, eq-yes, eq-no, not-no, or-no, and-no}
 use Rattle.problem.specs.laws.First.{then-left, then-right, then-accepted, NoneOf, none-of, of-none, first-each, first-all}
@@ -142,7 +143,26 @@ unfolding rootLines
 root-right s j =
     let e = or-no (le-no (nodeCount s) (rootAt s j)) (same (widthAt s (rootAt s j)) 1) in (λ h. e .0 (h .0), λ h. (e .1 h, tt))
 
--- the three parts of the check
+-- 16
+
+-- what holds of each number below j, and of j, holds of each below the next
+below-suc : (P : ℕ → Type 0) (j : ℕ) → ((i : ℕ) → i < j → P i) → P j → (i : ℕ) → i < suc j → P i
+below-suc P j h p i l = ⊎-elim (λ (e : i ≡ j). subst P (sym e) p) (λ (m : i < j). h i m) (eq-or-lt-of-le (le-of-suc-le-suc l))
+
+before-right : (s : List ℕ) (j id : ℕ) → (rootBefore s j id ≡ false) ↔ ((i : ℕ) → i < j → rootAt s i ≡ id → ⊥)
+unfolding rootBefore
+before-right s zero id = (λ h i l e. absurd (not-suc-le-zero l), λ h. refl)
+before-right s (suc j) id =
+    let both = or-no (before-right s j id) (eq-no (rootAt s j) id) in (
+      λ h. below-suc (λ i. rootAt s i ≡ id → ⊥) j (both .0 h .0) (both .0 h .1),
+      λ h. both .1 (λ i l. h i (omega arith), h j (omega arith)),
+    )
+
+repeat-right : (s : List ℕ) (j : ℕ) → (NoneOf (repeatLines s j)) ↔ ((i : ℕ) → i < j → rootAt s i ≡ rootAt s j → ⊥)
+unfolding repeatLines
+repeat-right s j = let e = before-right s j (rootAt s j) in (λ h. e .0 (h .0), λ h. (e .1 h, tt))
+
+-- the four parts of the check
 module _ (s : List ℕ) where
   abbrev heads : Checked
   heads = headerFault s
@@ -152,6 +172,9 @@ module _ (s : List ℕ) where
 
   abbrev roots : Checked
   roots = firstBelow (rootFault s) (rootCount s)
+
+  abbrev repeats : Checked
+  repeats = firstBelow (repeatFault s) (rootCount s)
 
   pub header-accepted : headerFault s ≡ Accepted → HeaderFacts s
   unfolding headerFault
@@ -165,27 +188,39 @@ module _ (s : List ℕ) where
   unfolding rootFault
   root-accepted j h = root-right s j .0 (none-of j _ h)
 
+  repeat-accepted : (j : ℕ) → repeatFault s j ≡ Accepted → (i : ℕ) → i < j → rootAt s i ≡ rootAt s j → ⊥
+  unfolding repeatFault
+  repeat-accepted j h = repeat-right s j .0 (none-of j _ h)
+
+  -- once 13 has passed, each root's id has a mark among 1,024
+  pub ids-small : headerFault s ≡ Accepted → (n : ℕ) → firstBelow (rootFault s) n ≡ Accepted → (j : ℕ) → j < n → rootAt s j < 1024
+  ids-small h n r j l = omega (arith, header-accepted h .nodes, root-accepted j (first-each (rootFault s) n r j l) .0)
+
   -- what an accepted problem has
   pub accepted-facts : checked s ≡ Accepted → Facts s
   unfolding checked
   accepted-facts h =
-      let rest = then-right heads (nodes then roots) h in
-      let ns = first-each (nodeFault s) (nodeCount s) (then-left nodes roots rest) in
-      let rs = first-each (rootFault s) (rootCount s) (then-right nodes roots rest) in
+      let inner = then-right heads (nodes then roots then repeats) h in
+      let ends = then-right nodes (roots then repeats) inner in
+      let ns = first-each (nodeFault s) (nodeCount s) (then-left nodes (roots then repeats) inner) in
+      let rs = first-each (rootFault s) (rootCount s) (then-left roots repeats ends) in
+      let ds = first-each (repeatFault s) (rootCount s) (then-right roots repeats ends) in
       record {
-        header = header-accepted (then-left heads (nodes then roots) h);
+        header = header-accepted (then-left heads (nodes then roots then repeats) h);
         node = λ i l. node-accepted i (ns i l);
         root-below = λ j l. root-accepted j (rs j l) .0;
         root-bit = λ j l. root-accepted j (rs j l) .1;
+        roots-differ = λ i j m l. repeat-accepted j (ds j l) i m;
       }
 
   -- "None is given otherwise": what has the facts is accepted
   pub facts-accepted : Facts s → checked s ≡ Accepted
-  unfolding checked headerFault nodeFault faultOf rootFault
+  unfolding checked headerFault nodeFault faultOf rootFault repeatFault
   facts-accepted F =
       then-accepted _ _ (of-none 0 _ (facts-header s (F .header)))
       ∙ then-accepted _ _ (first-all (nodeFault s) _ (λ i l. of-none i _ (facts-node _ i _ _ _ (F .node i l))))
-      ∙ first-all (rootFault s) _ (λ j l. of-none j _ (root-right s j .1 (F .root-below j l, F .root-bit j l)))
+      ∙ then-accepted _ _ (first-all (rootFault s) _ (λ j l. of-none j _ (root-right s j .1 (F .root-below j l, F .root-bit j l))))
+      ∙ first-all (repeatFault s) _ (λ j l. of-none j _ (repeat-right s j .1 (λ i m. F .roots-differ i j m l)))
 
 -- where an accepted problem's parts stand, and the widths of its nodes
 module _ {s : List ℕ} (F : Facts s) where

@@ -332,6 +332,7 @@ module _ (S : Spot) (i t : ℕ) (o : Offered S i t) where
             ];
         root-below = λ j l. absurd (omega (arith, counts .1));
         root-bit = λ j l. absurd (omega (arith, counts .1));
+        roots-differ = λ i j m l. absurd (omega (arith, counts .1));
       }
 
   start-at : (j : ℕ) → j < 3 → getD start j 0 ≡ at (S .current) j

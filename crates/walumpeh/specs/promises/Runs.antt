@@ -29,12 +29,12 @@ wal-run-determined s start ws B out (called {vs} {a = a} h c) (called {vs = vs�
     let e = run-determined s start ws B vs vs′ a a′ c c′ in
     (e .0, ap (reported out) (e .1), ap (λ (x : Answer). outcomeCode (x .outcome)) (e .1))
 
--- ---- 255 is told where out is too short, and nowhere else: the numbers of refusals go up to 15
+-- ---- 255 is told where out is too short, and nowhere else: the numbers of refusals go up to 16
 
 abbrev Few : Checked → Type 0
-Few c = checkedNumber c ≤ 15
+Few c = checkedNumber c ≤ 16
 
-few-numbers : (s start : List ℕ) → checkedNumber (refusals s start) ≤ 15
+few-numbers : (s start : List ℕ) → checkedNumber (refusals s start) ≤ 16
 unfolding refusals placesFault startFault
 few-numbers s start =
     then-each Few _ _ (omega (arith, numbered s .most))
