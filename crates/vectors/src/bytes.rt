@@ -117,6 +117,15 @@ pub(crate) fn put_problem(bytes: &mut [u8], nodes: u16, roots: u16) {
     }
 }
 
+// Its roots made the variables of 1 bit from node 15 on, each once.
+pub(crate) fn put_roots(bytes: &mut [u8], nodes: u16, roots: u16) {
+    let mut j: u16 = 0;
+    while j < roots {
+        put_root(bytes, nodes, j, (j % 1000) + 15);
+        j += 1;
+    }
+}
+
 // The problem that has every kind: 15 nodes, and the roots 10 and 11. Its length is 373.
 pub(crate) fn put_every_kind(bytes: &mut [u8]) {
     put_problem(bytes, 15, 2);

@@ -4,11 +4,13 @@ use crate::bytes::length;
 use crate::bytes::put_header;
 use crate::bytes::put_node;
 use crate::bytes::put_problem;
+use crate::bytes::put_roots;
 use crate::show::case;
 
 fn counts(name: &[u8], nodes: u16, roots: u16) {
     let mut bytes = [0u8; 25200];
     put_problem(&mut bytes, nodes, roots);
+    put_roots(&mut bytes, nodes, roots);
     case(name, &bytes, length(nodes, roots));
 }
 
@@ -28,7 +30,7 @@ pub(crate) fn run() {
     counts(b"no nodes and no roots", 0, 0);
     counts(b"1024 nodes", 1024, 0);
     counts(b"1025 nodes", 1025, 0);
-    counts(b"256 roots", 1, 256);
-    counts(b"257 roots", 1, 257);
+    counts(b"256 roots", 271, 256);
+    counts(b"257 roots", 272, 257);
     counts(b"1024 nodes and 256 roots", 1024, 256);
 }

@@ -114,7 +114,6 @@ fn pairs_roots() {
     root(b"root 15 of 15 nodes", 0, 15);
     root(b"second root of 4 bits", 1, 12);
     root(b"second root a variable", 1, 0);
-    root(b"root 10 twice", 1, 10);
 }
 
 pub(crate) fn run() {
