@@ -60,6 +60,7 @@ enum {
     WAL_WIDTH_RULE = 11,   /* [node] the widths do not fit */
     WAL_PAIR = 12,         /* [node] lo, hi are not a ternary word of the width, or a constant's differ */
     WAL_ROOT = 13,         /* [root] no node, or one of more than 1 bit */
+    WAL_ROOT_REPEATED = 16, /* [root] its id stands earlier in the file */
     WAL_FEW_PLACES = 14,   /* fewer places for values than nodes */
     WAL_START = 15,        /* [node] a variable's start does not agree with its pair */
     WAL_TOO_SHORT = 255    /* an array lent for the answer is too short: nothing was done */
@@ -81,10 +82,10 @@ enum { WAL_OUT_VERDICT = 0, WAL_OUT_MOVES = 1, WAL_OUT_STEPS = 2, WAL_OUT_WORDS 
 static inline unsigned wal_number(uint64_t refusal) { return (unsigned)(refusal & 255); }
 static inline uint64_t wal_place(uint64_t refusal) { return refusal >> 8; }
 
-/* The problem check: refusals 1 to 13. */
+/* The problem check: refusals 1 to 13 and 16. */
 uint64_t wal_check(const uint8_t *problem, size_t problem_len);
 
-/* A whole run: refusals 1 to 15. Of the values only the variables' places are read; after a verdict the
+/* A whole run: refusals 1 to 16. Of the values only the variables' places are read; after a verdict the
    first N hold every node's value and those after them what they held, and after a refusal none is
    changed. out takes verdict, moves, steps and words; beside a refusal WAL_REFUSED, 0, 0 and 0. Words of
    out after the fourth are not touched. */

@@ -17,7 +17,7 @@ use std::path::Path;
 pub struct Counts {
     pub cases: u64,
     pub verdicts: [u64; 4],
-    pub refusals: [u64; 16],
+    pub refusals: [u64; 17],
     pub promised: u64,
     pub moves: u64,
     pub steps: u64,
@@ -38,7 +38,7 @@ impl Counts {
             .filter(|&v| self.verdicts[v as usize] == 0)
             .map(|v| v.name().to_string());
         let refusals =
-            (1..=15).filter(|&number| self.refusals[number] == 0).map(|number| format!("refusal {number}"));
+            (1..=16).filter(|&number| self.refusals[number] == 0).map(|number| format!("refusal {number}"));
         let promised = (self.promised == 0).then(|| "a promised model".into());
         let steps = Kind::ALL.into_iter().flat_map(|kind| {
             let unused = move |&position: &usize| self.followed[kind as usize][position].contains(&0);
@@ -185,7 +185,8 @@ fn compare_damaged(
         return Ok(());
     };
     let mut rng = Rng::of_case(!seed, index);
-    let bytes = damage::damaged(&mut rng, &problem, 1 + (index % 13) as u8);
+    let number = damage::FAULTS[index as usize % damage::FAULTS.len()];
+    let bytes = damage::damaged(&mut rng, &problem, number);
     let (checked, due) = (subject.check(&bytes), Model.check(&bytes));
     counts.checks += 1;
     counts.checks_refused += u64::from(due != 0);

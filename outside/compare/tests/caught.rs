@@ -4,6 +4,7 @@
 use compare::narrow::{self, Extent};
 use compare::subject::{Asked, Model};
 use compare::{runs, wide, Subject};
+use model::problem::{HEADER, NODE};
 use model::{Kind, Set};
 
 /// The model with some calls changed.
@@ -16,6 +17,7 @@ enum Wrong {
     InventsAStep,
     NamesNoPlace,
     AcceptsWidth65,
+    MissesRepeatsApart,
     TakesAShortAnswer,
     KeepsOldCounts,
     ForgetsToGoRound,
@@ -35,6 +37,7 @@ impl Subject for Wrong {
             RefusesEverything => 1,
             NamesNoPlace => checked & 255,
             AcceptsWidth65 if checked & 255 == 8 => 0,
+            MissesRepeatsApart if checked & 255 == 16 && !repeats_the_one_before(problem, checked >> 8) => 0,
             _ => checked,
         }
     }
@@ -92,6 +95,13 @@ impl Subject for Wrong {
     }
 }
 
+/// Whether the root at a position is that of the position before.
+fn repeats_the_one_before(problem: &[u8], position: u64) -> bool {
+    let nodes = usize::from(u16::from_le_bytes([problem[5], problem[6]]));
+    let at = HEADER + NODE * nodes + 2 * position as usize;
+    problem[at..at + 2] == problem[at - 2..at]
+}
+
 #[test]
 fn wrong_runs_are_caught() {
     for (number, wrong) in [
@@ -102,6 +112,7 @@ fn wrong_runs_are_caught() {
         InventsAStep,
         NamesNoPlace,
         AcceptsWidth65,
+        MissesRepeatsApart,
         TakesAShortAnswer,
         KeepsOldCounts,
     ]

@@ -57,8 +57,11 @@ impl Builder {
         self.push(Node { kind: Kind::Extract, width, fields: [a, low as u16, 0], pair: Pair::default() })
     }
 
+    /// Makes a node a root, where it is none yet: roots may not repeat.
     pub fn root(&mut self, id: u16) {
-        self.problem.roots.push(id);
+        if !self.problem.roots.contains(&id) {
+            self.problem.roots.push(id);
+        }
     }
 
     /// The root that says that a node has a value.

@@ -47,7 +47,7 @@ fn damaged(rng: &mut Rng) -> Case {
     let Ok(problem) = model::problem::read(&case.problem) else {
         return case;
     };
-    let number = rng.between(1, 13) as u8;
+    let number = rng.one_of(&damage::FAULTS);
     case.problem = if rng.chance(25) {
         damage::scrambled(rng, &problem)
     } else {

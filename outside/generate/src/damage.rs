@@ -1,8 +1,11 @@
-//! Faults in a problem's bytes, at least one way for each of refusals 1 to 13.
+//! Faults in a problem's bytes, at least one way for each of refusals 1 to 13 and 16.
 
 use crate::rng::Rng;
 use model::problem::{Problem, HEADER, NODE};
 use model::{ones, Kind};
+
+/// The refusals that a problem's bytes can meet.
+pub const FAULTS: [u8; 14] = [1, 2, 3, 4, 5, 6, 7, 8, 9, 10, 11, 12, 13, 16];
 
 /// The bytes of a well-formed problem with one fault of the sort that refusal `number` names, at
 /// any place; unchanged where the problem offers no place for it.
@@ -17,6 +20,7 @@ pub fn damaged(rng: &mut Rng, problem: &Problem, number: u8) -> Vec<u8> {
         6 => spoil_length(rng, &mut bytes),
         7..=12 => spoil_node(rng, problem, number, &mut bytes),
         13 => spoil_root(rng, problem, &mut bytes),
+        16 => repeat_root(rng, problem, &mut bytes),
         _ => panic!("no fault of refusal {number} in a problem's bytes"),
     }
     bytes
@@ -120,6 +124,16 @@ fn spoil_root(rng: &mut Rng, problem: &Problem, bytes: &mut [u8]) {
     put16(bytes, HEADER + NODE * count + 2 * rng.below(problem.roots.len()), bad);
 }
 
+/// A root's id once more at any later position, next to it or not.
+fn repeat_root(rng: &mut Rng, problem: &Problem, bytes: &mut [u8]) {
+    if problem.roots.len() < 2 {
+        return;
+    }
+    let later = rng.between(1, problem.roots.len() - 1);
+    let id = problem.roots[rng.below(later)];
+    put16(bytes, HEADER + NODE * problem.nodes.len() + 2 * later, id.into());
+}
+
 #[cfg(test)]
 mod tests {
     use super::*;
@@ -128,21 +142,21 @@ mod tests {
 
     #[test]
     fn every_refusal_is_reached_at_many_places() {
-        let mut places = vec![std::collections::BTreeSet::new(); 14];
+        let mut places = vec![std::collections::BTreeSet::new(); 17];
         for index in 0..20_000 {
             let mut rng = Rng::of_case(3, index);
             let problem = random::problem(&mut rng, 30);
-            let number = 1 + (index % 13) as u8;
+            let number = FAULTS[index as usize % FAULTS.len()];
             if let Err(refusal) = read(&damaged(&mut rng, &problem, number)) {
                 places[refusal.number as usize].insert(refusal.place);
             }
         }
-        for (number, places) in places.iter().enumerate().skip(1) {
-            let count = places.len();
+        for number in FAULTS {
+            let count = places[usize::from(number)].len();
             let enough = match number {
                 1..=6 => 1,
                 11 => 29, // the first node has no operands to be of another width
-                13 => 4,
+                13 | 16 => 4,
                 _ => 30,
             };
             assert!(count >= enough, "refusal {number} at {count} places");

@@ -125,7 +125,7 @@ fn node(rng: &mut Rng, builder: &mut Builder, widths: Widths) -> u16 {
     }
 }
 
-/// Roots among the nodes of one bit: mostly few, late ones preferred, repeats allowed.
+/// Roots among the nodes of one bit: mostly few, late ones preferred, none twice.
 fn roots(rng: &mut Rng, builder: &mut Builder) {
     let fitting: Vec<u16> = (0..builder.len() as u16).filter(|&id| builder.width(id) == 1).collect();
     if fitting.is_empty() {
@@ -141,14 +141,11 @@ fn roots(rng: &mut Rng, builder: &mut Builder) {
     let pairs = model::pairs::pairs(&builder.problem);
     let preferred: Vec<u16> =
         fitting.iter().copied().filter(|&id| !open_only || pairs[id as usize].hi == 1).collect();
-    for _ in 0..count {
-        let list = if preferred.is_empty() { &fitting } else { &preferred };
-        let root = if rng.chance(50) {
-            list[list.len() - 1 - rng.below(list.len().min(4))]
-        } else {
-            rng.one_of(list)
-        };
-        builder.root(root);
+    let mut left = if preferred.is_empty() { fitting } else { preferred };
+    for _ in 0..count.min(left.len()) {
+        let late = left.len() - 1 - rng.below(left.len().min(4));
+        let at = if rng.chance(50) { late } else { rng.below(left.len()) };
+        builder.root(left.remove(at));
     }
 }
 

@@ -2,7 +2,7 @@
 
 use crate::random;
 use crate::rng::Rng;
-use model::problem::{MOST_NODES, MOST_ROOTS};
+use model::problem::MOST_NODES;
 use model::{ones, Kind, Problem};
 
 /// A problem and, for each node, its value under a solution.
@@ -43,10 +43,6 @@ pub fn solved(rng: &mut Rng, size: usize) -> Solved {
             }
             _ => builder.root_equals(id, value),
         }
-    }
-    while builder.problem.roots.len() < MOST_ROOTS && rng.chance(20) {
-        let again = rng.one_of(&builder.problem.roots);
-        builder.root(again);
     }
     finish(builder.problem, &values)
 }

@@ -2,7 +2,7 @@
 
 use std::fmt::{Display, Formatter};
 
-/// A refusal's number, 1 to 15, and its place: a node's id, a root's position, or 0.
+/// A refusal's number, 1 to 16, and its place: a node's id, a root's position, or 0.
 #[derive(Clone, Copy, Debug, PartialEq, Eq)]
 pub struct Refusal {
     pub number: u8,
@@ -32,7 +32,7 @@ impl Refusal {
     pub fn at(self) -> Place {
         match self.number {
             7..=12 | 15 => Place::Node(self.place),
-            13 => Place::Root(self.place),
+            13 | 16 => Place::Root(self.place),
             _ => Place::Whole,
         }
     }
@@ -55,6 +55,7 @@ impl Refusal {
             13 => "the root is no node, or one of more than 1 bit",
             14 => "fewer places than nodes",
             15 => "a variable's start does not agree with its pair",
+            16 => "the root stands earlier in the file",
             _ => "no such refusal",
         }
     }

@@ -1,4 +1,4 @@
-//! Problem bytes: reading them with refusals 1 to 13, writing them, evaluation, and H.
+//! Problem bytes: reading them with refusals 1 to 13 and 16, writing them, evaluation, and H.
 
 use crate::operator::{Kind, Operator};
 use crate::word::Pair;
@@ -79,7 +79,11 @@ pub fn read(bytes: &[u8]) -> Result<Problem, Refusal> {
             _ => return refuse(13, place),
         }
     }
-    Ok(problem)
+    let repeats = |&place: &usize| problem.roots[..place].contains(&problem.roots[place]);
+    match (0..root_count).find(repeats) {
+        Some(place) => refuse(16, place),
+        None => Ok(problem),
+    }
 }
 
 /// One node from its 24 bytes, after those before it; or its first refusal of 7 to 12.

@@ -141,10 +141,27 @@ fn limits() {
     let many = |count| Problem { nodes: vec![variable(1, Pair::free(1)); count], roots: vec![] };
     assert_eq!(refusal(&many(1024)), None);
     assert_eq!(refusal(&many(1025)), Some(Refusal { number: 4, place: 0 }));
-    let rooted = |count| Problem { nodes: vec![variable(1, Pair::free(1))], roots: vec![0; count] };
+    let rooted = |count: u16| Problem { roots: (0..count).collect(), ..many(count.into()) };
     assert_eq!(refusal(&rooted(256)), None);
     assert_eq!(refusal(&rooted(257)), Some(Refusal { number: 5, place: 0 }));
     assert_eq!(many(1024).bytes().len() + 2 * 256, 24_585 + 512);
+}
+
+/// Document 02, R-5: 16 at the first repeat, wherever its like stands, once 13 has passed for all roots.
+#[test]
+fn a_root_may_not_repeat() {
+    let nodes = vec![variable(1, Pair::free(1)), variable(1, Pair::free(1)), variable(2, Pair::free(2))];
+    for (roots, refused) in [
+        (vec![0, 1], None),
+        (vec![0; 40], Some((16, 1))),
+        (vec![0, 1, 0], Some((16, 2))),
+        (vec![0, 1, 1, 0], Some((16, 2))),
+        (vec![0, 0, 1, 2], Some((13, 3))),
+        (vec![0, 0, 3], Some((13, 2))),
+    ] {
+        let found = read(&Problem { nodes: nodes.clone(), roots: roots.clone() }.bytes()).err();
+        assert_eq!(found.map(|refusal| (refusal.number, refusal.place)), refused, "{roots:?}");
+    }
 }
 
 #[test]

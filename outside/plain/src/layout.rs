@@ -1,4 +1,4 @@
-//! Problem bytes as they are lent: nodes of 24 bytes, roots, and refusals 1 to 13.
+//! Problem bytes as they are lent: nodes of 24 bytes, roots, and refusals 1 to 13 and 16.
 
 use crate::kind::*;
 use crate::mask;
@@ -69,8 +69,12 @@ pub fn check(bytes: &[u8]) -> Result<Problem<'_>, Refusal> {
         check_node(node, &problem.nodes[..place]).map_err(|number| Refusal { number, place })?;
     }
     let fits = |entry: &[u8; 2]| problem.nodes.get(root(entry)).is_some_and(|node| width(node) == 1);
-    match problem.roots.iter().position(|entry| !fits(entry)) {
-        Some(place) => Err(Refusal { number: 13, place }),
+    if let Some(place) = problem.roots.iter().position(|entry| !fits(entry)) {
+        return Err(Refusal { number: 13, place });
+    }
+    let mut passed = [false; MOST_NODES];
+    match problem.roots.iter().position(|entry| std::mem::replace(&mut passed[root(entry)], true)) {
+        Some(place) => Err(Refusal { number: 16, place }),
         None => Ok(problem),
     }
 }

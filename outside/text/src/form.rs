@@ -53,6 +53,9 @@ impl Draft {
     fn root(&mut self, name: &str) -> Result<(), String> {
         let id = self.id(name)?;
         match self.builder.width(id) {
+            1 if self.builder.problem.roots.contains(&id) => {
+                Err(format!("root '{name}' stands above already"))
+            }
             1 if self.builder.problem.roots.len() == MOST_ROOTS => {
                 Err(format!("more than {MOST_ROOTS} roots"))
             }
@@ -201,6 +204,7 @@ mod tests {
             ("x = var 40\nz = concat x x", "line 2: concat does not take operands of 40, 40 bits"),
             ("x = var 4\ny = extract x 3 2", "line 2: 2 bits from bit 3 are not in a node of 4 bits"),
             ("x = var 4\nroot x", "line 2: root 'x' has 4 bits, not 1"),
+            ("x = var 1\ny = var 1\nroot x y\nroot x", "line 4: root 'x' stands above already"),
             ("x = nand y y", "line 1: no kind 'nand'"),
             ("x var 4", "line 1: neither 'NAME = KIND ..' nor 'root NODE..'"),
             ("x = var 1\n\nroot # x", "line 3: expected: root NODE.."),

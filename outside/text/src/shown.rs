@@ -171,7 +171,8 @@ mod tests {
         for index in 0..2000 {
             let mut rng = Rng::of_case(6, index);
             let problem = random::problem(&mut rng, 20);
-            let bytes = damage::damaged(&mut rng, &problem, 1 + (index % 13) as u8);
+            let number = damage::FAULTS[index as usize % damage::FAULTS.len()];
+            let bytes = damage::damaged(&mut rng, &problem, number);
             let Err(refusal) = walumpeh::check(&bytes) else {
                 continue;
             };

@@ -42,7 +42,7 @@ pub fn run(args: &Args) -> Result<ExitCode, Fault> {
     match walumpeh::run(&problem, &mut values, tape, budget) {
         Err(refusal) => {
             print::text(&format!("refused {} at {}\n", refusal.number, refusal.place))?;
-            let at = if refusal.number < 14 { &args.problem } else { &args.start };
+            let at = if matches!(refusal.number, 14 | 15) { &args.start } else { &args.problem };
             Err(Fault::at(at, refusal))
         }
         Ok(answer) => {

@@ -62,6 +62,12 @@ fn refusals_say_number_place_and_meaning() {
     at.write("root.tbv", [&at.read("problem.tbv")[..129], &[3, 0]].concat());
     let why = "walumpeh: root.tbv: refused 13 at 0: root 0: the root is no node, or one of more than 1 bit\n";
     answers(&at, "run root.tbv", 1, "refused 13 at 0\n", why);
+    let mut twice = [&at.read("problem.tbv")[..], &[4, 0]].concat();
+    twice[7] = 2;
+    at.write("twice.tbv", twice);
+    let why = "walumpeh: twice.tbv: refused 16 at 1: root 1: the root stands earlier in the file\n";
+    answers(&at, "run twice.tbv", 1, "refused 16 at 1\n", why);
+    answers(&at, "check twice.tbv", 1, "", why);
     at.write("four.bin", [0; 32]);
     let why = "walumpeh: four.bin: refused 14 at 0: fewer places than nodes\n";
     answers(&at, "run problem.tbv four.bin", 1, "refused 14 at 0\n", why);
