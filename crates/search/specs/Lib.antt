@@ -4,6 +4,7 @@ pub mod Run
 pub mod Call
 pub mod Answers
 pub mod Reach
+pub mod Steps
 pub mod inner
 pub mod promises
 pub mod laws

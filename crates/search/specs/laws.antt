@@ -4,5 +4,6 @@ pub mod Candidates
 pub mod Found
 pub mod Lead
 pub mod Moves
+pub mod Need
 pub mod Runs
 pub mod Starts

@@ -2,3 +2,4 @@
 pub mod Accepted
 pub mod Demands
 pub mod Determined
+pub mod Need

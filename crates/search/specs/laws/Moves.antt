@@ -10,30 +10,35 @@ use Rattle.words.specs.Agree.{Agrees}
 use Rattle.words.specs.laws.Agree.{agrees-of-within, within-refl}
 use Rattle.words.specs.laws.Pick.{pick-member}
 use Rattle.picking.specs.declared.spot.Spot.{Spot}
-use Rattle.picking.specs.Spot.{at, positions}
+use Rattle.picking.specs.Spot.{at, positions, Candidate}
 use Rattle.evaluation.specs.Problem.{Prob, count, arg, Variable, spotOf, spot, pairLo, pairHi}
 use Rattle.evaluation.specs.Lists.{Lists}
 use Rattle.search.specs.Step.{Out, goes, blocked, Follows, Follows.inverse, Follows.consistent, Follows.nothing, Step, Step.none-left, Step.followed}
 use Rattle.search.specs.Run.{End, sets, stuck, short, Walk, Walk.arrives, Walk.unserved, Walk.stops, Walk.onward, Unsatisfied, AllOne, Move, Move.no-word, Move.from-root, ClosedRoot}
 use Rattle.evaluation.specs.inner.Good.{Good}
-use Rattle.evaluation.specs.laws.Decide.{Stands, lists-find, lists-member}
+use Rattle.evaluation.specs.laws.Decide.{Stands, lists-find, Member, lists-member}
 use Rattle.evaluation.specs.laws.Nodes.{at-column}
 use Rattle.evaluation.specs.laws.Pairs.{pairs-ternary}
 use Rattle.search.specs.inner.Run.{Aimed}
 
--- a step goes to a position of the node, with a value that agrees with its pair
-abbrev pub Goes : Spot → Out → Type 0
-Goes S (goes i v) = (i < positions S) × Agrees (at (S .los) i) (at (S .his) i) v
-Goes S blocked = Unit {0}
+-- a step goes to a candidate of the node, with a value that agrees with its pair
+record Goes (S : Spot) (t i v : ℕ) : Type 0 where
+  pub place-lt : i < positions S
+  pub candidate : Candidate S t i
+  pub agrees : Agrees (at (S .los) i) (at (S .his) i) v
 
-follows-goes : {S : Spot} {t e p i : ℕ} {o : Out} → i < positions S → Follows S t e p i o → Goes S o
-follows-goes h (inverse z k) = (h, pick-member k .agrees)
-follows-goes h (consistent w k) = (h, pick-member k .agrees)
-follows-goes h (nothing w n) = tt
+abbrev GoesTo : Spot → ℕ → Out → Type 0
+GoesTo S t (goes i v) = Goes S t i v
+GoesTo S t blocked = Unit {0}
 
-pub step-goes : {S : Spot} {t e p : ℕ} {o : Out} → Step S t e p o → Goes S o
-step-goes {S} (none-left l b) = subst (Goes S) (sym b) tt
-step-goes {e = e} (followed l ls h k) = follows-goes (lists-member ls (e / 2 % length l) (mod-lt (e / 2) h) .below) k
+follows-goes : {S : Spot} {t e p i : ℕ} {o : Out} → Member (Candidate S t) (positions S) i → Follows S t e p i o → GoesTo S t o
+follows-goes m (inverse z k) = record { place-lt = m .below; candidate = m .holds; agrees = pick-member k .agrees }
+follows-goes m (consistent w k) = record { place-lt = m .below; candidate = m .holds; agrees = pick-member k .agrees }
+follows-goes m (nothing w n) = tt
+
+step-goes : {S : Spot} {t e p : ℕ} {o : Out} → Step S t e p o → GoesTo S t o
+step-goes {S} {t} (none-left l b) = subst (GoesTo S t) (sym b) tt
+step-goes {e = e} (followed l ls h k) = follows-goes (lists-member ls (e / 2 % length l) (mod-lt (e / 2) h)) k
 
 module _ (P : Prob) where
   -- the variable that a move sets is a node, and takes a value that agrees with its pair
@@ -79,20 +84,23 @@ module _ (P : Prob) where
 
 -- of an accepted problem
 module _ (P : Prob) (g : Good P) where
-  -- where a step goes: down to an operand, with a value that agrees with the operand's pair
+  -- where a step goes: down to an operand that is not fully fixed, with a value that agrees with the operand's pair
   pub record Next (n i v : ℕ) : Type 0 where
     pub place-lt : i < count P n
     pub below : arg P n i < n
+    pub unfixed : pairLo P (arg P n i) ≡ pairHi P (arg P n i) → ⊥
     pub aimed : Aimed P (arg P n i) v
 
   pub step-next : (vs : List ℕ) {n t e p i v : ℕ} → n < P .nodes → Step (spot P vs n) t e p (goes i v) → Next n i v
   unfolding spotOf
   step-next vs {n} {i = i} {v = v} l st =
-      let b : i < count P n = step-goes st .0 in
+      let to = step-goes st in
+      let b : i < count P n = to .place-lt in
       record {
         place-lt = b;
         below = g .node n l .below i b;
-        aimed = rw (at-column P (pairLo P) n i b, at-column P (pairHi P) n i b) at (step-goes st .1);
+        unfixed = rw (at-column P (pairLo P) n i b, at-column P (pairHi P) n i b) at (to .candidate .open-bits);
+        aimed = rw (at-column P (pairLo P) n i b, at-column P (pairHi P) n i b) at (to .agrees);
       }
 
   pub walk-lands : (vs : List ℕ) {n t s : ℕ} {ws : List ℕ} {r : End} → Walk P vs n t ws s r → n < P .nodes → Aimed P n t → Landed P r
