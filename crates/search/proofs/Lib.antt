@@ -3,3 +3,4 @@ pub mod RootPlaces
 pub mod Steps
 pub mod Places
 pub mod Runs
+pub mod Links

@@ -5,6 +5,7 @@ pub mod Call
 pub mod Answers
 pub mod Reach
 pub mod Steps
+pub mod Needed
 pub mod inner
 pub mod promises
 pub mod laws

@@ -4,8 +4,10 @@ ghost use Prim.Native.Nat.{_+_, _*_};
 ghost use Rattle.evaluation.specs.Problem.{problem as problemIn};
 ghost use Rattle.search.specs.Run.{Run, answer};
 ghost use Rattle.search.specs.Call.{Called};
+ghost use Rattle.search.specs.Needed.{Needed};
 ghost use Rattle.search.specs.inner.Run.{Searching};
 
+mod heights;
 mod moves;
 mod roots;
 mod starts;
@@ -13,10 +15,14 @@ mod step;
 
 use evaluation::evaluate;
 use evaluation::fill;
+use heights::fill_heights;
+use heights::longest_chain;
+use heights::words_for;
 use moves::Stop;
 use moves::make_move;
 use problem::Checked;
 use problem::Refusal;
+use problem::check;
 use roots::closed_root;
 use roots::count_unsatisfied;
 use starts::refusal_of;
@@ -122,4 +128,34 @@ pub fn run(problem: &[u8], values: &mut [u64], tape: &[u64], budget: u16) -> Ans
         return settled(0, 0, 0, Verdict::Closed);
     }
     search(problem, &los, &his, values, tape, budget)
+}
+
+// What a problem asks of a tape: H, the words for a budget, and what the problem check found.
+pub struct TapeNeed {
+    pub h: u64,
+    pub words: u64,
+    pub found: Checked,
+}
+
+// How long a tape is needed for a budget: H and budget x (1 + 2H), or a refusal, and both 0.
+pub fn need(problem: &[u8], budget: u16) -> TapeNeed
+    ensures { λ r. ⌜ Needed (now (problem .entry)) budget r ⌝ }
+{
+    let found = check(problem);
+    if let Checked::Refused(refusal) = found {
+        return TapeNeed {
+            h: 0,
+            words: 0,
+            found: Checked::Refused(refusal),
+        };
+    }
+    let mut heights = [0u64; 1024];
+    fill_heights(problem, &mut heights);
+    let h = longest_chain(problem, &heights);
+    let words = words_for(budget, h);
+    TapeNeed {
+        h,
+        words,
+        found: Checked::Accepted,
+    }
 }
