@@ -2,6 +2,7 @@
 pub mod Codes
 pub mod Offered
 pub mod Calls
+pub mod Needs
 pub mod Runs
 pub mod promises
 pub mod laws

@@ -2,6 +2,7 @@
 // its caller: a word past the end of a slice reads as 0, and a node that no accepted problem has is refused.
 mod checks;
 mod codes;
+mod needs;
 mod nodes;
 mod offered;
 mod runs;
