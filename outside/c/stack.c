@@ -48,6 +48,10 @@ static void *run(void *none) {
     if (wal_run(problem, LENGTH, values, NODES, tape, WORDS, 1000, out, WAL_RUN_OUT) != WAL_ACCEPTED) abort();
     return none;
 }
+static void *need(void *none) {
+    if (wal_need(problem, LENGTH, 1000, out, WAL_NEED_OUT) != WAL_ACCEPTED) abort();
+    return none;
+}
 static void *picks(void *none) {
     for (uint8_t kind = WAL_AND; kind <= WAL_BELOW; kind++)
         for (uint32_t position = 0; position < 2; position++)
@@ -80,7 +84,11 @@ int main(void) {
     static const struct {
         const char *name;
         void *(*call)(void *);
-    } calls[] = {{"wal_check", check}, {"wal_run", run}, {"wal_pick", picks}, {"wal_essential", essential}};
+    } calls[] = {{"wal_check", check},
+                 {"wal_run", run},
+                 {"wal_need", need},
+                 {"wal_pick", picks},
+                 {"wal_essential", essential}};
     int status = 0;
     fill();
     size_t before = used(nothing);

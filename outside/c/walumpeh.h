@@ -78,6 +78,9 @@ enum {
 /* Where wal_run puts what in out, and how many words it needs there. */
 enum { WAL_OUT_VERDICT = 0, WAL_OUT_MOVES = 1, WAL_OUT_STEPS = 2, WAL_OUT_WORDS = 3, WAL_RUN_OUT = 4 };
 
+/* Where wal_need puts what in out, and how many words it needs there. */
+enum { WAL_NEED_CHAIN = 0, WAL_NEED_WORDS = 1, WAL_NEED_OUT = 2 };
+
 /* A refusal's number and place. */
 static inline unsigned wal_number(uint64_t refusal) { return (unsigned)(refusal & 255); }
 static inline uint64_t wal_place(uint64_t refusal) { return refusal >> 8; }
@@ -91,6 +94,12 @@ uint64_t wal_check(const uint8_t *problem, size_t problem_len);
    out after the fourth are not touched. */
 uint64_t wal_run(const uint8_t *problem, size_t problem_len, uint64_t *values, size_t values_len,
                  const uint64_t *tape, size_t tape_len, uint16_t budget, uint64_t *out, size_t out_len);
+
+/* How long a tape a problem needs: refusals 1 to 13. out takes H, the longest chain of operand links under
+   any root, and budget x (1 + 2H); beside a refusal 0 and 0. No move makes more than H steps, and a run of
+   that budget or a smaller one that is lent so many words never says WAL_ENDED, from whatever start. Words
+   of out after the second are not touched. */
+uint64_t wal_need(const uint8_t *problem, size_t problem_len, uint16_t budget, uint64_t *out, size_t out_len);
 
 /* The pick from the inverse (which = 0) or consistent (else) set of an operand's position: 1 with the
    value in out[0], 0 where the set is empty, 2 where no accepted problem has such a node, position and

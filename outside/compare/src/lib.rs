@@ -2,17 +2,19 @@
 //!
 //! | module    | what it compares                                                              |
 //! |-----------|-------------------------------------------------------------------------------|
-//! | `subject` | the four calls, answered by the proved library or by plain Rust               |
+//! | `subject` | the library's calls, answered by the proved library or by plain Rust          |
 //! | `narrow`  | picks and essential tests over all cases of few bits, against the definitions |
 //! | `wide`    | the same at 33 to 64 bits at random, with witnesses and neighbours            |
 //! | `refused` | picks whose arguments are not those of a node                                 |
 //! | `runs`    | checks and whole runs, with every verdict and refusal counted                 |
+//! | `need`    | how long a tape a run takes, and problems that use every word of it           |
 //! | `program` | what the program `tvrun` prints, whole                                        |
 //! | `parts`   | work in parts, on all of the machine's processors                             |
 //!
 //! A difference is an `Err` with a text that shows it.
 
 pub mod narrow;
+pub mod need;
 pub mod parts;
 pub mod program;
 pub mod refused;

@@ -3,7 +3,7 @@
 use clap::{Parser, ValueEnum};
 use compare::narrow::{self, Extent};
 use compare::runs::{self, Counts};
-use compare::{program, refused, wide, Library, Plain, Subject};
+use compare::{need, program, refused, wide, Library, Plain, Subject};
 use model::{Kind, Verdict};
 use std::path::{Path, PathBuf};
 use std::process::ExitCode;
@@ -53,6 +53,8 @@ enum What {
         #[arg(long, value_name = "FOLDER", default_value = "differences")]
         out: PathBuf,
     },
+    /// Problems that use every word of the tape that they may need, and say ended with one word less
+    Need,
     /// The whole output of a program that does as tvrun does, run in a folder of its own
     Program {
         program: PathBuf,
@@ -86,6 +88,7 @@ fn compare(subject: &impl Subject, line: &Line) -> Result<(), String> {
     match &line.what {
         What::Picks { spots, cases } => picks(subject, line.seed, *spots, *cases),
         What::Runs { cases, out } => whole_runs(subject, line.seed, *cases, out),
+        What::Need => whole_tapes(subject, line.seed),
         What::Program { program, cases } => whole_outputs(program, line.seed, *cases),
     }
 }
@@ -98,6 +101,16 @@ fn whole_outputs(program: &Path, seed: u64, cases: u64) -> Result<(), String> {
     let verdicts = compared.map_err(|d| format!("difference: {d}its files are in {}", folder.display()))?;
     std::fs::remove_dir_all(&folder).map_err(|fault| format!("{}: {fault}", folder.display()))?;
     println!("program: {cases} outputs, {verdicts} with a verdict, no difference, {}", seconds(start));
+    Ok(())
+}
+
+fn whole_tapes(subject: &impl Subject, seed: u64) -> Result<(), String> {
+    let start = Instant::now();
+    let problems = need::compare_tight(subject, seed).map_err(|d| format!("difference: {d}"))?;
+    println!(
+        "need: {problems} problems use every word and end with one less, no difference, {}",
+        seconds(start)
+    );
     Ok(())
 }
 
@@ -173,6 +186,7 @@ fn show(counts: &Counts) {
     }
     println!("models promised by demand 3, and found within its bounds: {}", counts.promised);
     println!("checks of damaged copies: {}, refused {}", counts.checks, counts.checks_refused);
+    println!("runs that were lent the words of their need, none ended: {}", counts.served);
 }
 
 fn seconds(since: Instant) -> String {

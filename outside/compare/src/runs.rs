@@ -1,8 +1,8 @@
 //! Checks and whole runs, of all sorts of problems, starts and tapes, with every verdict and every
 //! refusal counted; and demand 3: tapes built from a known solution bring *model* within its bounds.
 
-use crate::parts;
 use crate::subject::{Model, Subject};
+use crate::{need, parts};
 use generate::case::{case, Case};
 use generate::{damage, Rng};
 use model::calls::{RUN_OUT, TOO_SHORT};
@@ -28,6 +28,8 @@ pub struct Counts {
     /// Problem checks alone, and how many of them refused.
     pub checks: u64,
     pub checks_refused: u64,
+    /// Runs that were lent exactly the words of their need.
+    pub served: u64,
 }
 
 impl Counts {
@@ -65,6 +67,7 @@ impl Counts {
             (&mut self.steps, other.steps),
             (&mut self.checks, other.checks),
             (&mut self.checks_refused, other.checks_refused),
+            (&mut self.served, other.served),
         ] {
             *to += from;
         }
@@ -106,7 +109,8 @@ fn compare_part(subject: &impl Subject, seed: u64, part: Range<u64>) -> Result<C
         let case = case(seed, index);
         let compared = compare_case(subject, &case, &mut counts)
             .and_then(|()| compare_short(subject, &case, index as usize % RUN_OUT))
-            .and_then(|()| compare_damaged(subject, seed, index, &case, &mut counts));
+            .and_then(|()| compare_damaged(subject, seed, index, &case, &mut counts))
+            .and_then(|()| compare_need(subject, seed, index, &case, &mut counts));
         if let Err(what) = compared {
             return Err(Box::new(Difference { index, what, case }));
         }
@@ -196,8 +200,21 @@ fn compare_damaged(
     Ok(())
 }
 
+/// How long a tape the case takes.
+fn compare_need(
+    subject: &impl Subject,
+    seed: u64,
+    index: u64,
+    case: &Case,
+    counts: &mut Counts,
+) -> Result<(), String> {
+    let mut rng = Rng::of_case(seed.rotate_left(32), index);
+    counts.served += u64::from(need::compare_case(subject, &mut rng, case)?);
+    Ok(())
+}
+
 /// An answer in words.
-fn shown(refusal: u64, [verdict, moves, steps, words]: [u64; RUN_OUT]) -> String {
+pub(crate) fn shown(refusal: u64, [verdict, moves, steps, words]: [u64; RUN_OUT]) -> String {
     let name = match Verdict::ALL.get(verdict as usize) {
         Some(verdict) => verdict.name().into(),
         None => format!("number {verdict}"),
@@ -206,7 +223,7 @@ fn shown(refusal: u64, [verdict, moves, steps, words]: [u64; RUN_OUT]) -> String
     format!("{} with {counts}", refusal_shown(refusal))
 }
 
-fn refusal_shown(refusal: u64) -> String {
+pub(crate) fn refusal_shown(refusal: u64) -> String {
     match refusal {
         0 => "accepted".into(),
         refused => format!("refused {} at {}", refused & 255, refused >> 8),

@@ -1,4 +1,4 @@
-//! What is compared with the model: the four calls in the library's own numbers.
+//! What is compared with the model: the calls in the library's own numbers.
 
 use model::{Set, Spot};
 
@@ -7,6 +7,8 @@ pub trait Subject: Sync {
     fn check(&self, problem: &[u8]) -> u64;
     /// The same; `out` takes verdict, moves, steps and words.
     fn run(&self, problem: &[u8], values: &mut [u64], tape: &[u64], budget: u16, out: &mut [u64]) -> u64;
+    /// The same; `out` takes H and how many words the budget needs.
+    fn need(&self, problem: &[u8], budget: u16, out: &mut [u64]) -> u64;
     /// 0 for nothing, 1 for a value in `out`, 2 for refused arguments.
     fn pick(&self, asked: &Asked, set: Set, proposal: u64, out: &mut [u64; 1]) -> u8;
     /// 0, 1, or 2 for refused arguments.
@@ -50,6 +52,10 @@ impl Subject for Library {
         walumpeh::raw::run(problem, values, tape, budget, out)
     }
 
+    fn need(&self, problem: &[u8], budget: u16, out: &mut [u64]) -> u64 {
+        walumpeh::raw::need(problem, budget, out)
+    }
+
     fn pick(&self, q: &Asked, set: Set, proposal: u64, out: &mut [u64; 1]) -> u8 {
         walumpeh::raw::pick(q.kind, q.width, q.low, &q.words, q.position, q.target, proposal, set as u8, out)
     }
@@ -71,6 +77,10 @@ impl Subject for Model {
         model::calls::run(problem, values, tape, budget, out)
     }
 
+    fn need(&self, problem: &[u8], budget: u16, out: &mut [u64]) -> u64 {
+        model::calls::need(problem, budget, out)
+    }
+
     fn pick(&self, q: &Asked, set: Set, proposal: u64, out: &mut [u64; 1]) -> u8 {
         model::calls::pick(q.kind, q.width, q.low, &q.words, q.position, q.target, proposal, set as u8, out)
     }
@@ -90,6 +100,10 @@ impl Subject for Plain {
 
     fn run(&self, problem: &[u8], values: &mut [u64], tape: &[u64], budget: u16, out: &mut [u64]) -> u64 {
         plain::calls::run(problem, values, tape, budget, out)
+    }
+
+    fn need(&self, problem: &[u8], budget: u16, out: &mut [u64]) -> u64 {
+        plain::calls::need(problem, budget, out)
     }
 
     fn pick(&self, q: &Asked, set: Set, proposal: u64, out: &mut [u64; 1]) -> u8 {

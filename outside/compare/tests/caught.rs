@@ -3,7 +3,7 @@
 
 use compare::narrow::{self, Extent};
 use compare::subject::{Asked, Model};
-use compare::{runs, wide, Subject};
+use compare::{need, runs, wide, Subject};
 use model::problem::{HEADER, NODE};
 use model::{Kind, Set};
 
@@ -20,6 +20,9 @@ enum Wrong {
     MissesRepeatsApart,
     TakesAShortAnswer,
     KeepsOldCounts,
+    LinksTheLowestBit,
+    MeasuresTheFirstRoot,
+    MeasuresOneTooFew,
     ForgetsToGoRound,
     PassesTheProposalOver,
     JudgesEssentialByWidth,
@@ -58,6 +61,35 @@ impl Subject for Wrong {
             InventsAStep if refusal == 0 => (out[2], out[3]) = (out[2] + 1, out[3] + 2),
             KeepsOldCounts if refusal != 0 => out[1] = 1,
             _ => {}
+        }
+        refusal
+    }
+
+    fn need(&self, problem: &[u8], budget: u16, out: &mut [u64]) -> u64 {
+        let refusal = Model.need(problem, budget, out);
+        let Ok(mut read) = model::problem::read(problem) else {
+            return refusal;
+        };
+        let height = match self {
+            LinksTheLowestBit => {
+                // Concat has two links; the widths do not matter here.
+                let extracts =
+                    read.nodes.iter_mut().enumerate().filter(|(_, node)| node.kind == Kind::Extract);
+                for (id, node) in extracts {
+                    node.fields[1] = node.fields[1].min(id as u16 - 1);
+                    node.kind = Kind::Concat;
+                }
+                read.height()
+            }
+            MeasuresTheFirstRoot => {
+                read.roots.truncate(1);
+                read.height()
+            }
+            MeasuresOneTooFew => read.height().saturating_sub(1),
+            _ => return refusal,
+        };
+        if refusal == 0 {
+            out[..2].copy_from_slice(&[height as u64, u64::from(budget) * (1 + 2 * height as u64)]);
         }
         refusal
     }
@@ -115,12 +147,20 @@ fn wrong_runs_are_caught() {
         MissesRepeatsApart,
         TakesAShortAnswer,
         KeepsOldCounts,
+        LinksTheLowestBit,
+        MeasuresTheFirstRoot,
+        MeasuresOneTooFew,
     ]
     .into_iter()
     .enumerate()
     {
         assert!(runs::compare(&wrong, 1, 2000).is_err(), "wrong run {number} passed");
     }
+}
+
+#[test]
+fn an_h_one_too_small_is_caught_by_problems_that_use_every_word() {
+    assert!(need::compare_tight(&MeasuresOneTooFew, 1).is_err());
 }
 
 #[test]

@@ -110,8 +110,8 @@ fn by_recipe(rng: &mut Rng) -> Case {
     let follow = rng.below(4);
     case.tape.extend((0..follow).map(|_| rng.word()));
     case.budget = if rng.chance(70) { distance } else { rng.between(distance, 65_535) } as u16;
-    let words = distance * (1 + 2 * solved.problem.height());
-    case.promise = Some(Promise { moves: distance as u64, words: words as u64 });
+    let moves = distance as u64;
+    case.promise = Some(Promise { moves, words: solved.problem.words_for(moves) });
     case
 }
 

@@ -6,6 +6,7 @@
 //! | `builder`  | a problem node by node, widths worked out                              |
 //! | `random`   | well-formed problems over every kind and width                         |
 //! | `solved`   | problems with a known solution                                         |
+//! | `tight`    | problems whose runs use every word that they may need                  |
 //! | `damage`   | one fault in a problem's bytes, for each of refusals 1 to 13 and 16    |
 //! | `case`     | everything that a run is lent, of all sorts mixed                      |
 //! | `spots`    | single nodes for picking: operators, pairs, values, targets            |
@@ -21,6 +22,7 @@ pub mod rng;
 pub mod solved;
 pub mod spots;
 pub mod tape;
+pub mod tight;
 
 pub use builder::Builder;
 pub use case::Case;

@@ -96,11 +96,11 @@ mod tests {
             solved.problem.evaluate(&mut values);
             let d = recipe::distance(&search, &values, &solved.solution);
             let tape = recipe::tape(&search, &values, &solved.solution, &mut || rng.word());
-            let bound = d * (1 + 2 * solved.problem.height());
-            assert!(tape.len() <= bound);
+            let bound = solved.problem.words_for(d as u64);
+            assert!(tape.len() as u64 <= bound);
             let answer = run(&bytes, &mut values, &tape, d as u16);
             assert_eq!(answer.outcome, Outcome::Settled(Verdict::Model), "case {index}");
-            assert!(answer.moves as usize <= d && answer.words as usize <= bound);
+            assert!(answer.moves as usize <= d && answer.words <= bound);
         }
     }
 }

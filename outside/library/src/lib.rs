@@ -1,4 +1,5 @@
-//! The proved library in safe Rust: the problem check and the run, and the picks of a single node.
+//! The proved library in safe Rust: the problem check, the run and how long a tape it takes, and the
+//! picks of a single node.
 //!
 //! Every call takes whole slices and answers for every input; nothing has to hold beforehand. Calls
 //! share nothing and may run on several threads. The calls behind them, with the library's own numbers,
@@ -62,6 +63,23 @@ pub fn run(problem: &[u8], values: &mut [u64], tape: &[u64], budget: u16) -> Res
     let [verdict, moves, steps, words] = out;
     let verdict = Verdict::of(verdict).expect("a run that is not refused has a verdict");
     Ok(Answer { verdict, moves, steps, words })
+}
+
+/// How long a tape a problem's runs take.
+#[derive(Clone, Copy, Debug, PartialEq, Eq)]
+pub struct Need {
+    /// H, the longest chain of operand links under any root: no move makes more steps.
+    pub chain: u64,
+    /// The budget × (1 + 2H): a run that is lent so many words never says *ended*.
+    pub words: u64,
+}
+
+/// How many words serve every run of a problem with that budget or a smaller one, from whatever start.
+pub fn need(problem: &[u8], budget: u16) -> Result<Need, Refusal> {
+    let mut out = [0; raw::NEED_OUT];
+    Refusal::of(raw::need(problem, budget, &mut out))?;
+    let [chain, words] = out;
+    Ok(Need { chain, words })
 }
 
 /// The set that a value is picked from.

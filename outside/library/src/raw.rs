@@ -18,6 +18,13 @@ mod calls {
             out: *mut u64,
             out_len: usize,
         ) -> u64;
+        pub fn wal_need(
+            problem: *const u8,
+            problem_len: usize,
+            budget: u16,
+            out: *mut u64,
+            out_len: usize,
+        ) -> u64;
         pub fn wal_pick(
             kind: u8,
             width: u32,
@@ -49,6 +56,9 @@ pub const IS_STUB: bool = cfg!(feature = "stub");
 /// How many words a run needs for its answer: verdict, moves, steps and words.
 pub const RUN_OUT: usize = 4;
 
+/// How many words `need` needs for its answer: H and the number of words.
+pub const NEED_OUT: usize = 2;
+
 /// The refusal of a call that is lent too few words for its answer.
 pub const TOO_SHORT: u64 = 255;
 
@@ -76,6 +86,12 @@ pub fn run(problem: &[u8], values: &mut [u64], tape: &[u64], budget: u16, out: &
             out.len(),
         )
     }
+}
+
+/// The same; `out` takes H and budget × (1 + 2H), or two zeros.
+pub fn need(problem: &[u8], budget: u16, out: &mut [u64]) -> u64 {
+    // SAFETY: as above.
+    unsafe { calls::wal_need(problem.as_ptr(), problem.len(), budget, out.as_mut_ptr(), out.len()) }
 }
 
 /// 1 with the value in `out`, 0 where the set is empty, 2 where the arguments are refused.

@@ -1,4 +1,4 @@
-//! The proved library's four calls as the model answers them, in the library's own numbers: what each
+//! The proved library's calls as the model answers them, in the library's own numbers: what each
 //! must answer.
 
 use crate::problem::read;
@@ -10,6 +10,9 @@ pub const SPOT_WORDS: usize = 12;
 /// How many words a run's answer takes: verdict, moves, steps and words.
 pub const RUN_OUT: usize = 4;
 
+/// How many words the answer of `need` takes: H and the number of words.
+pub const NEED_OUT: usize = 2;
+
 /// The refusal of a call that is lent too few words for its answer.
 pub const TOO_SHORT: u64 = 255;
 
@@ -20,6 +23,24 @@ pub fn check(problem: &[u8]) -> u64 {
 
 fn code(refusal: Refusal) -> u64 {
     u64::from(refusal.number) + 256 * refusal.place as u64
+}
+
+/// How long a tape a run takes: 0 with H and budget × (1 + 2H) in `out`, or the refusal with 0 and 0.
+/// Nothing is done where `out` is too short.
+pub fn need(problem: &[u8], budget: u16, out: &mut [u64]) -> u64 {
+    let Some(out) = out.first_chunk_mut::<NEED_OUT>() else {
+        return TOO_SHORT;
+    };
+    match read(problem) {
+        Ok(problem) => {
+            *out = [problem.height() as u64, problem.words_for(budget.into())];
+            0
+        }
+        Err(refusal) => {
+            *out = [0, 0];
+            code(refusal)
+        }
+    }
 }
 
 /// The run's answer in numbers; nothing is done where `out` is too short for it.

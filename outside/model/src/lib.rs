@@ -5,14 +5,14 @@
 //! |--------------|---------------------------------------------------------------------------|
 //! | `word`       | widths, ternary words, what "agrees" means                                |
 //! | `operator`   | the table of kinds: operands, width rule, meaning                         |
-//! | `problem`    | problem bytes, refusals 1 to 13 and 16, evaluation, H                     |
+//! | `problem`    | problem bytes, refusals 1 to 13 and 16, evaluation, H, the tape's length  |
 //! | `pairs`      | fixed bits of inner nodes                                                 |
 //! | `definition` | the three sets and the pick by going through all values (small widths)    |
 //! | `exact`      | the same sets and pick at every width                                     |
 //! | `run`        | a run: refusals 14 and 15, verdicts, moves, steps, words                  |
 //! | `recipe`     | demand 3: the tape that leads from a start to a known solution            |
 //! | `files`      | the three files of `tvrun`: what they hold and what is printed            |
-//! | `calls`      | the proved library's four calls, in its numbers                           |
+//! | `calls`      | the proved library's calls, in its numbers                                |
 
 pub mod calls;
 pub mod definition;

@@ -1,4 +1,4 @@
-//! Problem bytes: reading them with refusals 1 to 13 and 16, writing them, evaluation, and H.
+//! Problem bytes: reading them with refusals 1 to 13 and 16, writing them, evaluation, H, and how long a tape it takes.
 
 use crate::operator::{Kind, Operator};
 use crate::word::Pair;
@@ -163,6 +163,12 @@ impl Problem {
             links[id] = node.operands().iter().map(|&operand| links[operand as usize] + 1).max().unwrap_or(0);
         }
         self.roots.iter().map(|&root| links[root as usize]).max().unwrap_or(0)
+    }
+
+    /// The most words that so many moves take: one each, and two for each step, of which no move makes
+    /// more than H.
+    pub fn words_for(&self, moves: u64) -> u64 {
+        moves * (1 + 2 * self.height() as u64)
     }
 
     /// The problem's bytes.

@@ -1,8 +1,8 @@
-//! The four calls in the library's own numbers and with its own tests of the arguments, so that the
+//! The calls in the library's own numbers and with its own tests of the arguments, so that the
 //! two are measured at the same work. Never inlined, as the library's are not.
 
 use crate::kind::EXTRACT;
-use crate::layout::{check as check_problem, operands, Refusal};
+use crate::layout::{check as check_problem, height, operands, Refusal};
 use crate::mask;
 use crate::picking::{essential as is_essential, pick_consistent, pick_inverse, Spot};
 use crate::search::{run as run_problem, Outcome};
@@ -30,6 +30,20 @@ pub fn run(problem: &[u8], values: &mut [u64], tape: &[u64], budget: u16, out: &
         Outcome::Refused(refusal) => (code(refusal), 4),
     };
     *out = [verdict, answer.moves, answer.steps, answer.words];
+    refusal
+}
+
+/// The same; `out` takes H and budget × (1 + 2H), or two zeros.
+#[inline(never)]
+pub fn need(problem: &[u8], budget: u16, out: &mut [u64]) -> u64 {
+    let Some(out) = out.first_chunk_mut() else {
+        return 255;
+    };
+    let (refusal, height, moves) = match check_problem(problem) {
+        Ok(problem) => (0, height(problem), budget.into()),
+        Err(refusal) => (code(refusal), 0, 0),
+    };
+    *out = [height, moves * (1 + 2 * height)];
     refusal
 }
 

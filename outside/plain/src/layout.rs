@@ -1,4 +1,4 @@
-//! Problem bytes as they are lent: nodes of 24 bytes, roots, and refusals 1 to 13 and 16.
+//! Problem bytes as they are lent: nodes of 24 bytes, roots, refusals 1 to 13 and 16, and H.
 
 use crate::kind::*;
 use crate::mask;
@@ -133,6 +133,16 @@ fn check_node(node: &Node, before: &[Node]) -> Result<(), u8> {
         return Err(12);
     }
     Ok(())
+}
+
+/// H, the longest chain of operand links under any root: heights in one pass upward.
+pub fn height(problem: Problem) -> u64 {
+    let mut heights = [0u16; MOST_NODES];
+    for (id, node) in problem.nodes.iter().enumerate() {
+        let above = (0..operands(kind(node))).map(|position| heights[field(node, position)] + 1);
+        heights[id] = above.max().unwrap_or(0);
+    }
+    problem.roots.iter().map(|entry| heights[root(entry)].into()).max().unwrap_or(0)
 }
 
 /// The width rule of a kind, for the node's width and its operands'.

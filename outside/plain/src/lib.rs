@@ -6,10 +6,10 @@
 //! |-----------|-----------------------------------------------------------|
 //! | `member`  | the least member of a ternary word within a range         |
 //! | `picking` | inverse and consistent picks and the essential test       |
-//! | `layout`  | problem bytes: nodes, roots, refusals 1 to 13 and 16      |
+//! | `layout`  | problem bytes: nodes, roots, refusals 1 to 13 and 16, H   |
 //! | `values`  | evaluation and fixed bits of all nodes                    |
 //! | `search`  | the run                                                   |
-//! | `calls`   | the library's four calls, in its numbers                  |
+//! | `calls`   | the library's calls, in its numbers                       |
 
 pub mod calls;
 pub mod layout;

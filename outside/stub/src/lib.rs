@@ -34,6 +34,19 @@ pub unsafe extern "C" fn wal_run(
 }
 
 /// # Safety
+/// Each pointer and length are those of a slice; `out` overlaps no other.
+#[no_mangle]
+pub unsafe extern "C" fn wal_need(
+    problem: *const u8,
+    problem_len: usize,
+    budget: u16,
+    out: *mut u64,
+    out_len: usize,
+) -> u64 {
+    calls::need(from_raw_parts(problem, problem_len), budget, from_raw_parts_mut(out, out_len))
+}
+
+/// # Safety
 /// Each pointer and length are those of a slice.
 #[no_mangle]
 pub unsafe extern "C" fn wal_pick(

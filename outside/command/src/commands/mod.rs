@@ -4,6 +4,7 @@ mod build;
 mod check;
 mod example;
 mod export;
+mod need;
 mod run;
 mod show;
 mod tape;
@@ -17,6 +18,7 @@ pub enum Command {
     Build(build::Args),
     Show(show::Args),
     Check(check::Args),
+    Need(need::Args),
     Tape(tape::Args),
     Run(run::Args),
     Export(export::Args),
@@ -29,6 +31,7 @@ impl Command {
             Command::Build(args) => build::run(&args),
             Command::Show(args) => show::run(&args),
             Command::Check(args) => check::run(&args),
+            Command::Need(args) => need::run(&args),
             Command::Tape(args) => tape::run(&args),
             Command::Run(args) => run::run(&args),
             Command::Export(args) => export::run(&args),

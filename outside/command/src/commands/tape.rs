@@ -4,7 +4,7 @@ use crate::fault::Fault;
 use crate::files::write::{self, Output};
 use crate::problem::accepted;
 use generate::tape::{drawn, Drawn};
-use model::files::{bytes_of, tape_file, MOST_WORDS};
+use model::files::{bytes_of, tape_file};
 use model::run::Search;
 use model::{Kind, Problem};
 use rand_chacha::rand_core::{RngCore, SeedableRng};
@@ -14,8 +14,9 @@ use std::process::ExitCode;
 
 /// Make a start and a tape for a problem from a seed
 ///
-/// The words are drawn as a run from that start asks for them, since only the run says which words
-/// serve as an e; the tape ends where that run does.
+/// The tape is as long as 'walumpeh need' says: no run of the budget ends for want of words, from
+/// whatever start. As long as a run from the start that is made asks for words they are drawn for it, since
+/// only the run says which of them serve as an e; the rest are any.
 #[derive(clap::Args)]
 #[command(verbatim_doc_comment)]
 pub struct Args {
@@ -31,28 +32,35 @@ pub struct Args {
     #[arg(long, default_value_t = 1)]
     seed: u64,
     /// The most moves
-    #[arg(long, default_value_t = 1000)]
+    #[arg(long, default_value_t = BUDGET)]
     budget: u16,
     /// Of a hundred words e, how many ask for the inverse set, that is, are even
     #[arg(long, default_value_t = 95, value_name = "PERCENT", value_parser = clap::value_parser!(u8).range(0..=100))]
     inverse: u8,
-    /// The most words of the tape; tvrun reads no more than 1023
-    #[arg(long, default_value_t = MOST_WORDS)]
-    words: usize,
+    /// The most words of the tape, for one that is shorter than the need; tvrun reads no more than 1023
+    #[arg(long)]
+    words: Option<u64>,
     /// Start each variable at the least value that agrees, not at one by chance
     #[arg(long)]
     least: bool,
 }
 
+/// The most moves where none are asked for.
+pub const BUDGET: u16 = 1000;
+
 pub fn run(args: &Args) -> Result<ExitCode, Fault> {
     let problem = accepted(&args.problem)?;
+    let need =
+        walumpeh::need(&problem.bytes, args.budget).map_err(|refusal| Fault::at(&args.problem, refusal))?;
+    let length = args.words.map_or(need.words, |most| most.min(need.words)) as usize;
     let mut chance = ChaCha8Rng::seed_from_u64(args.seed);
     let start = start(&problem.problem, |free| if args.least { 0 } else { chance.next_u64() & free });
     let search = Search::accept(&problem.bytes, &start).map_err(|refusal| {
         Fault::at(&args.problem, format!("the model refuses it: {} at {}", refusal.number, refusal.place))
     })?;
-    let words = Drawn::new(|| chance.next_u64(), args.inverse.into(), args.words);
-    let (tape, _) = drawn(&search, &start, args.budget, words);
+    let words = Drawn::new(|| chance.next_u64(), args.inverse.into(), length);
+    let (mut tape, _) = drawn(&search, &start, args.budget, words);
+    tape.resize_with(length, || chance.next_u64());
     let outputs = [
         Output { path: &args.start, bytes: bytes_of(&start) },
         Output { path: &args.tape, bytes: tape_file(args.budget, &tape) },

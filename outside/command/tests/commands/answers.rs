@@ -56,7 +56,7 @@ fn refusals_say_number_place_and_meaning() {
     let shown = at.run("show wide.tbv");
     assert_eq!((shown.status.code(), text(&shown.stderr).as_str()), (Some(1), why));
     assert!(text(&shown.stdout).contains("\n2 = mul 0 1                  # <== refused 8: "));
-    for command in ["tape wide.tbv", "export wide.tbv"] {
+    for command in ["need wide.tbv", "tape wide.tbv", "export wide.tbv"] {
         at.fails(command, why.trim_end().trim_start_matches("walumpeh: "));
     }
     at.write("root.tbv", [&at.read("problem.tbv")[..129], &[3, 0]].concat());

@@ -2,7 +2,7 @@
 
 use crate::at::At;
 
-const COMMANDS: [&str; 7] = ["build", "show", "check", "tape", "run", "export", "example"];
+const COMMANDS: [&str; 8] = ["build", "show", "check", "need", "tape", "run", "export", "example"];
 
 #[test]
 fn help_names_every_command() {
@@ -27,6 +27,7 @@ fn every_command_has_help() {
     }
     for (command, words) in [
         ("build", ["--rootless", "root ok"]),
+        ("need", ["--budget <BUDGET>", "longest chain H"]),
         ("tape", ["--seed <SEED>", "[default: 95]"]),
         ("run", ["--budget", "3 spent, 4 ended, 5 closed"]),
         ("export", ["--answer <FILE>", "--pin <ID=VALUE>"]),

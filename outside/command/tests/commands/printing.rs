@@ -3,8 +3,15 @@
 use crate::at::{text, At, WALUMPEH};
 use std::process::{Command, Output};
 
-const PRINTING: [&str; 6] =
-    ["show problem.tbv", "check problem.tbv", "run", "export problem.tbv", "--help", "tape --help"];
+const PRINTING: [&str; 7] = [
+    "show problem.tbv",
+    "check problem.tbv",
+    "need problem.tbv",
+    "run",
+    "export problem.tbv",
+    "--help",
+    "tape --help",
+];
 
 /// The command with its standard output sent elsewhere by a shell.
 fn sent(at: &At, line: &str, to: &str) -> Output {

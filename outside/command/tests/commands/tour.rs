@@ -55,6 +55,29 @@ fn a_seed_makes_a_start_and_a_tape() {
     assert_eq!((at.read("there.bin"), at.read("here.bin")), three);
 }
 
+/// The longest chain and the words, and a tape that has as many: no run of the budget ends along it.
+#[test]
+fn a_tape_has_the_words_that_are_needed() {
+    let at = At::example("need");
+    at.prints("need problem.tbv", "longest chain 2\nwords 5000 for 1000 moves\n");
+    at.prints("need problem.tbv --budget 1", "longest chain 2\nwords 5 for 1 move\n");
+    at.prints("need problem.tbv --budget 0", "longest chain 2\nwords 0 for 0 moves\n");
+    at.prints("need problem.tbv --budget 65535", "longest chain 2\nwords 327675 for 65535 moves\n");
+    at.write("rootless.txt", "x = var 4\ny = not x\n");
+    at.prints("build rootless.txt rootless.tbv --rootless", "");
+    at.prints("need rootless.tbv --budget 9", "longest chain 0\nwords 9 for 9 moves\n");
+    for (line, words) in [("", 5000), ("--budget 30", 150), ("--words 7", 7), ("--words 6000", 5000)] {
+        at.prints(&format!("tape problem.tbv {line}"), "");
+        assert_eq!(at.read("tape.bin").len(), 8 * (1 + words), "{line}");
+    }
+    at.prints("tape problem.tbv --budget 3 --seed 5", "");
+    for x in 0..16 {
+        at.write("other.bin", model::files::bytes_of(&[x, 0, 0, 0, 0]));
+        let status = at.run("run problem.tbv other.bin").status.code();
+        assert!(matches!(status, Some(0 | 3)), "{x}: {status:?}");
+    }
+}
+
 /// Of the words e those asked for are even, and a tape can be longer than tvrun reads.
 #[test]
 fn the_share_of_inverse_choices_and_long_tapes() {
