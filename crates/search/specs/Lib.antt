@@ -6,6 +6,7 @@ pub mod Answers
 pub mod Reach
 pub mod Steps
 pub mod Needed
+pub mod Passing
 pub mod inner
 pub mod promises
 pub mod laws

@@ -3,6 +3,7 @@ pub mod Apart
 pub mod Candidates
 pub mod Found
 pub mod Lead
+pub mod More
 pub mod Moves
 pub mod Need
 pub mod Runs

@@ -2,4 +2,5 @@
 pub mod Accepted
 pub mod Demands
 pub mod Determined
+pub mod More
 pub mod Need

@@ -94,7 +94,7 @@ module _ (P : Prob) (vs : List ℕ) where
 -- ---- a run
 
 -- the ends of a move by number, so that two that differ are told apart
-abbrev number : End → ℕ
+abbrev pub number : End → ℕ
 number (sets n v s ws) = 0
 number (stuck s ws) = 1
 number short = 2
@@ -108,7 +108,7 @@ itself : {out : List ℕ} {a : Answer} → Same out out a a
 itself = record { values = refl; answers = refl }
 
 module _ (P : Prob) (B : ℕ) where
-  two-ends : {vs ws : List ℕ} {s : ℕ} {r r′ : End} → Move P vs ws s r → Move P vs ws s r′ → (number r ≡ number r′ → ⊥) → ⊥
+  pub two-ends : {vs ws : List ℕ} {s : ℕ} {r r′ : End} → Move P vs ws s r → Move P vs ws s r′ → (number r ≡ number r′ → ⊥) → ⊥
   two-ends {vs} k k′ d = d (ap number (move-unique P vs k k′))
 
   pub run-unique :
