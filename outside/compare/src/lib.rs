@@ -7,12 +7,14 @@
 //! | `wide`    | the same at 33 to 64 bits at random, with witnesses and neighbours            |
 //! | `refused` | picks whose arguments are not those of a node                                 |
 //! | `runs`    | checks and whole runs, with every verdict and refusal counted                 |
+//! | `more`    | pairs of runs, of which the second is lent a greater budget and more words    |
 //! | `need`    | how long a tape a run takes, and problems that use every word of it           |
 //! | `program` | what the program `tvrun` prints, whole                                        |
 //! | `parts`   | work in parts, on all of the machine's processors                             |
 //!
 //! A difference is an `Err` with a text that shows it.
 
+pub mod more;
 pub mod narrow;
 pub mod need;
 pub mod parts;

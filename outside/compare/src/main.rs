@@ -2,7 +2,7 @@
 
 use clap::{Parser, ValueEnum};
 use compare::narrow::{self, Extent};
-use compare::runs::{self, Counts};
+use compare::runs::{self, Counts, Difference};
 use compare::{need, program, refused, wide, Library, Plain, Subject};
 use model::{Kind, Verdict};
 use std::path::{Path, PathBuf};
@@ -53,6 +53,14 @@ enum What {
         #[arg(long, value_name = "FOLDER", default_value = "differences")]
         out: PathBuf,
     },
+    /// Pairs of runs: with a greater budget and a longer tape nothing that was found is lost
+    More {
+        #[arg(long, default_value_t = 200_000)]
+        cases: u64,
+        /// Where the files of a difference are written to
+        #[arg(long, value_name = "FOLDER", default_value = "differences")]
+        out: PathBuf,
+    },
     /// Problems that use every word of the tape that they may need, and say ended with one word less
     Need,
     /// The whole output of a program that does as tvrun does, run in a folder of its own
@@ -88,6 +96,7 @@ fn compare(subject: &impl Subject, line: &Line) -> Result<(), String> {
     match &line.what {
         What::Picks { spots, cases } => picks(subject, line.seed, *spots, *cases),
         What::Runs { cases, out } => whole_runs(subject, line.seed, *cases, out),
+        What::More { cases, out } => pairs(subject, line.seed, *cases, out),
         What::Need => whole_tapes(subject, line.seed),
         What::Program { program, cases } => whole_outputs(program, line.seed, *cases),
     }
@@ -144,13 +153,7 @@ fn picks(subject: &impl Subject, seed: u64, spots: u64, cases: u64) -> Result<()
 
 fn whole_runs(subject: &impl Subject, seed: u64, cases: u64, out: &Path) -> Result<(), String> {
     let start = Instant::now();
-    let counts = runs::compare(subject, seed, cases).map_err(|difference| {
-        let written = match runs::write_files(&difference.case, out) {
-            Ok(()) => format!("its files are in {}", out.display()),
-            Err(fault) => format!("its files could not be written to {}: {fault}", out.display()),
-        };
-        format!("difference at case {} of seed {seed}: {}; {written}", difference.index, difference.what)
-    })?;
+    let counts = runs::compare(subject, seed, cases).map_err(|difference| kept(&difference, seed, out))?;
     show(&counts);
     println!(
         "{} cases, {} moves, {} steps, no difference, {}",
@@ -163,6 +166,28 @@ fn whole_runs(subject: &impl Subject, seed: u64, cases: u64, out: &Path) -> Resu
         [] => Ok(()),
         missing => Err(format!("never reached: {}", missing.join(", "))),
     }
+}
+
+fn pairs(subject: &impl Subject, seed: u64, cases: u64, out: &Path) -> Result<(), String> {
+    let start = Instant::now();
+    let counts =
+        runs::compare_more(subject, seed, cases).map_err(|difference| kept(&difference, seed, out))?;
+    let names = Verdict::ALL.map(Verdict::name).into_iter().chain(["refused"]);
+    let shown: Vec<String> = names.zip(counts).map(|(name, count)| format!("{name} {count}")).collect();
+    println!("more: {cases} pairs of runs ({}), no difference, {}", shown.join(", "), seconds(start));
+    match counts.contains(&0) {
+        true => Err("a verdict was never reached".into()),
+        false => Ok(()),
+    }
+}
+
+/// A difference in words, its files written to a folder.
+fn kept(difference: &Difference, seed: u64, out: &Path) -> String {
+    let written = match runs::write_files(&difference.case, out) {
+        Ok(()) => format!("its files are in {}", out.display()),
+        Err(fault) => format!("its files could not be written to {}: {fault}", out.display()),
+    };
+    format!("difference at case {} of seed {seed}: {}; {written}", difference.index, difference.what)
 }
 
 fn show(counts: &Counts) {

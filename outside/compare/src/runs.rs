@@ -2,7 +2,7 @@
 //! refusal counted; and demand 3: tapes built from a known solution bring *model* within its bounds.
 
 use crate::subject::{Model, Subject};
-use crate::{need, parts};
+use crate::{more, need, parts};
 use generate::case::{case, Case};
 use generate::{damage, Rng};
 use model::calls::{RUN_OUT, TOO_SHORT};
@@ -94,28 +94,50 @@ const PART: u64 = 500;
 
 /// Compares cases 0 to `cases` - 1 under a seed, up to the first difference.
 pub fn compare(subject: &impl Subject, seed: u64, cases: u64) -> Result<Counts, Box<Difference>> {
-    let parts: Vec<Range<u64>> =
-        (0..cases.div_ceil(PART)).map(|k| k * PART..cases.min((k + 1) * PART)).collect();
     let mut counts = Counts::default();
-    for one in parts::each(&parts, |part| compare_part(subject, seed, part.clone()))? {
+    let compare_one = |index: u64, case: &Case, counts: &mut Counts| {
+        compare_case(subject, case, counts)?;
+        compare_short(subject, case, index as usize % RUN_OUT)?;
+        compare_damaged(subject, seed, index, case, counts)?;
+        compare_need(subject, seed, index, case, counts)
+    };
+    for one in each_case(seed, cases, compare_one)? {
         counts.add(&one);
     }
     Ok(counts)
 }
 
-fn compare_part(subject: &impl Subject, seed: u64, part: Range<u64>) -> Result<Counts, Box<Difference>> {
-    let mut counts = Counts::default();
-    for index in part {
-        let case = case(seed, index);
-        let compared = compare_case(subject, &case, &mut counts)
-            .and_then(|()| compare_short(subject, &case, index as usize % RUN_OUT))
-            .and_then(|()| compare_damaged(subject, seed, index, &case, &mut counts))
-            .and_then(|()| compare_need(subject, seed, index, &case, &mut counts));
-        if let Err(what) = compared {
-            return Err(Box::new(Difference { index, what, case }));
-        }
+/// Compares pairs of runs, of which the second is lent more, by cases 0 to `cases` - 1.
+pub fn compare_more(subject: &impl Subject, seed: u64, cases: u64) -> Result<more::Counts, Box<Difference>> {
+    let mut counts = more::Counts::default();
+    let compare_one = |index: u64, case: &Case, counts: &mut more::Counts| {
+        more::compare_case(subject, &mut Rng::of_case(!seed, index), case, counts)
+    };
+    for one in each_case(seed, cases, compare_one)? {
+        counts.iter_mut().zip(one).for_each(|(sum, one)| *sum += one);
     }
     Ok(counts)
+}
+
+/// Cases 0 to `cases` - 1 under a seed, part by part; gives what was counted in each part, or the first
+/// difference.
+fn each_case<Counts: Default + Send>(
+    seed: u64,
+    cases: u64,
+    compare: impl Fn(u64, &Case, &mut Counts) -> Result<(), String> + Sync,
+) -> Result<Vec<Counts>, Box<Difference>> {
+    let parts: Vec<Range<u64>> =
+        (0..cases.div_ceil(PART)).map(|k| k * PART..cases.min((k + 1) * PART)).collect();
+    parts::each(&parts, |part| {
+        let mut counts = Counts::default();
+        for index in part.clone() {
+            let case = case(seed, index);
+            if let Err(what) = compare(index, &case, &mut counts) {
+                return Err(Box::new(Difference { index, what, case }));
+            }
+        }
+        Ok(counts)
+    })
 }
 
 /// One run by both, and what it must keep.
@@ -247,5 +269,12 @@ mod tests {
     fn plain_rust_passes_and_everything_is_reached() {
         let counts = compare(&Plain, 1, 20_000).map_err(|d| d.what).unwrap();
         assert!(counts.missing().is_empty(), "{:?}", counts.missing());
+    }
+
+    #[test]
+    fn more_is_never_worse_in_the_model_and_in_plain_rust() {
+        for counts in [compare_more(&Model, 1, 5000), compare_more(&Plain, 1, 20_000)] {
+            assert!(!counts.map_err(|d| d.what).unwrap().contains(&0));
+        }
     }
 }

@@ -23,6 +23,8 @@ enum Wrong {
     LinksTheLowestBit,
     MeasuresTheFirstRoot,
     MeasuresOneTooFew,
+    StartsWithTheLastWord,
+    SharesTheBudgetOut,
     ForgetsToGoRound,
     PassesTheProposalOver,
     JudgesEssentialByWidth,
@@ -49,6 +51,11 @@ impl Subject for Wrong {
         let before = values.to_vec();
         let refusal = match self {
             CountsAfterTheFirstMove => Model.run(problem, values, tape, budget.min(1), out),
+            StartsWithTheLastWord => {
+                let backwards: Vec<u64> = tape.iter().rev().copied().collect();
+                Model.run(problem, values, &backwards, budget, out)
+            }
+            SharesTheBudgetOut => Model.run(problem, values, tape, budget / 2 + budget % 2, out),
             _ => Model.run(problem, values, tape, budget, out),
         };
         match self {
@@ -155,6 +162,15 @@ fn wrong_runs_are_caught() {
     .enumerate()
     {
         assert!(runs::compare(&wrong, 1, 2000).is_err(), "wrong run {number} passed");
+    }
+}
+
+/// Two searches that are sound by themselves, and lose what they had where they are lent more.
+#[test]
+fn runs_that_lose_what_they_had_are_caught() {
+    assert!(runs::compare_more(&Model, 1, 2000).is_ok());
+    for wrong in [StartsWithTheLastWord, SharesTheBudgetOut] {
+        assert!(runs::compare_more(&wrong, 1, 2000).is_err());
     }
 }
 
