@@ -11,7 +11,7 @@ use problem::Node;
 use problem::node_at;
 use problem::node_count;
 
-// The pair of a node of kinds 2 to 13, from its operands' pairs.
+// The pair of an inner node, from its operands' pairs.
 fn inner_pair(bytes: &[u8], los: &[u64; 1024], his: &[u64; 1024], n: Node) -> Pair
     requires { ⌜ Narrowed (now bytes) (now los) (now his) n ⌝ }
     ensures { λ r. ⌜ r ≡ derives (now (bytes .entry)) (now (los .entry)) (now (his .entry)) n ⌝ }

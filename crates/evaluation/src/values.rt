@@ -8,8 +8,8 @@ use problem::node_at;
 use problem::node_count;
 use problem::width_at;
 
-// The operator of a node. Field a is always some node's id, so its width is a plain read, which the compiler leaves to the one
-// kind that uses it; field b of an extract is a bit's number, so its width is asked for, and no kind's value uses it.
+// The operator of a node. Field a is always some node's id, so its width is a plain read, which the compiler leaves to the
+// kinds that use it; field b of an extract is a bit's number, so its width is asked for, and no kind's value uses it.
 fn operator(bytes: &[u8], n: Node) -> Op
     requires { ⌜ Readable (now bytes) (n .a) ⌝ }
     ensures { λ r. ⌜ r ≡ standingOp (now (bytes .entry)) n ⌝ }
@@ -35,7 +35,8 @@ fn value_at(bytes: &[u8], values: &[u64], i: u16) -> u64
     match kind {
         0 => values[i as usize],
         1 => n.lo,
-        _ => operators::value(op, values, n.a, n.b, n.c),
+        2..=16 => operators::value(op, values, n.a, n.b, n.c),
+        17..=255 => 0,
     }
 }
 

@@ -1,5 +1,6 @@
 -- The pairs that the code makes are those of the definitions, from what it was told of their parts.
-use mathlib.Core.Path.{_≡_, refl, ap, ap₂, _∙_}
+use mathlib.Core.Path.{_≡_, refl, sym, ap, ap₂, _∙_}
+use mathlib.Core.Bool.{Bool, true, false}
 use Prim.Native.Nat.{ℕ, zero, suc, _+_, _-_, _%_, _^_, _≤_, _<_, min}
 use native.Mathlib.Nat.{le-trans, mod-lt}
 use native.Mathlib.Omega.{arith}
@@ -7,7 +8,8 @@ use lib.Count.{trailingZeros}
 use lib.Pow.{pow-pos, pow-mono}
 use Rattle.words.specs.laws.Zeros.{trailing-min}
 use Rattle.operators.specs.declared.fixed.Pair.{Pair}
-use Rattle.operators.specs.Fixed.{pair, branch, upTo, lowest}
+use Rattle.operators.specs.Fixed.{pair, either, branch, upTo, lowest, signedLeast, signedMost, sltPair}
+use Rattle.operators.specs.Meaning.{signedLess}
 use Rattle.operators.specs.inner.Ready.{Used, Ordered}
 use Rattle.operators.specs.laws.Sound.{lowest-le, lo-lt}
 use Rattle.operators.proofs.Parts.{recut}
@@ -47,3 +49,17 @@ branch-some (suc c) q r h = refl
 pub low-fits : {p q r : Pair} (w wa wb : ℕ) → Used 2 (Ordered p) (Ordered q) (Ordered r) → (wa + wb ≡ w) × (1 ≤ wa) × (p .hi < 2 ^ wa) × (q .hi < 2 ^ wb)
     → (wa + wb ≡ w) × (1 ≤ wa) × (p .lo < 2 ^ wa) × (q .lo < 2 ^ wb)
 low-fits w wa wb u f = (f .0, f .1, lo-lt (u .a (omega arith)) (f .2), lo-lt (u .b (omega arith)) (f .3))
+
+-- signed below, by its two tests
+module _ (w : ℕ) (p q : Pair) where
+  abbrev tests : Bool → Bool → Pair
+  tests s t = either s (pair 1 1) (either t (pair 0 1) (pair 0 0))
+
+  pub slt-yes : signedLess w (signedMost w p) (signedLeast w q) ≡ true → pair 1 1 ≡ sltPair w p q
+  slt-yes e = ap (λ (s : Bool). tests s (signedLess w (signedLeast w p) (signedMost w q))) (sym e)
+
+  pub slt-open : signedLess w (signedMost w p) (signedLeast w q) ≡ false → signedLess w (signedLeast w p) (signedMost w q) ≡ true → pair 0 1 ≡ sltPair w p q
+  slt-open e f = ap₂ tests (sym e) (sym f)
+
+  pub slt-no : signedLess w (signedMost w p) (signedLeast w q) ≡ false → signedLess w (signedLeast w p) (signedMost w q) ≡ false → pair 0 0 ≡ sltPair w p q
+  slt-no e f = ap₂ tests (sym e) (sym f)

@@ -10,6 +10,8 @@ use Rattle.words.specs.laws.Modular.{cut-cut}
 use Rattle.operators.specs.declared.meaning.Op.{Op}
 use Rattle.operators.specs.Meaning.{flag, choose}
 use Rattle.operators.specs.inner.Ready.{Ready}
+use Rattle.operators.specs.Table.{kindCount}
+use Rattle.operators.specs.laws.Table.{Without, singles, left-over}
 
 -- a word that was computed modulo 2^W, cut to fewer bits
 pub recut : (r n W w : ℕ) → r ≡ n % 2 ^ W → w ≤ W → r % 2 ^ w ≡ n % 2 ^ w
@@ -43,15 +45,6 @@ join-asks w wa wb x y h f = (omega (arith, f .0, f .1), f .3, lt-of-lt-of-le (f 
 pub part-asks : (w wa low x : ℕ) → 1 ≤ w → (low + w ≤ wa) × (wa ≤ 64) × (x < 2 ^ wa) → low < 64
 part-asks w wa low x h f = omega (arith, f .0, f .1)
 
--- n is none of the k numbers from m on, as the last arm of a match on them knows it
-abbrev pub NoneOf : ℕ → ℕ → ℕ → Type 0
-NoneOf m zero n = Unit {0}
-NoneOf m (suc k) n = NoneOf m k n × (n ≡ m + k → ⊥)
-
-past : (m k n : ℕ) → m ≤ n → NoneOf m k n → m + k ≤ n
-past m zero n h r = omega arith
-past m (suc k) n h r = let g : m + k ≤ n = past m k n h (r .0) in let d : n ≡ m + k → ⊥ = r .1 in omega arith
-
--- of the kinds 2 to 13, 13 is left
-pub last-kind : {op : Op} {x y z : ℕ} → Ready op x y z → NoneOf 2 11 (op .kind) → op .kind ≡ 13
-last-kind d r = let g : 2 + 11 ≤ _ = past 2 11 _ (d .operator) r in omega (arith, d .known)
+-- no kind is left beside those that have an arm of their own
+pub none-left : {op : Op} {x y z : ℕ} → Ready op x y z → Without (singles 2 15) (op .kind) → ⊥
+none-left {op} d w = left-over 2 kindCount (singles 2 15) (λ x. false) tt (op .kind) (d .operator) (d .known) w

@@ -1,11 +1,13 @@
--- Document 01, "Fixed bits of inner nodes": the pair of a node, from its operands' pairs.
+-- Document 01, "Fixed bits of inner nodes", and the same of 02's R-1: the pair of a node, from its operands' pairs.
 use mathlib.Core.Bool.{Bool, true, false}
 use Prim.Native.Nat.{ℕ, zero, suc, _+_, _-_, _*_, _/_, _%_, _^_}
 use lib.Bits.{bitAnd, bitOr, bitXor}
 use lib.Count.{trailingZeros}
 use lib.Dec.{eqb, leb, ltb}
+use Rattle.words.specs.inner.Words.{over}
 use Rattle.operators.specs.declared.fixed.Pair.{Pair}
-use Rattle.operators.specs.Table.{Kind, variable, constant, inv, conj, xor, add, mul, shl, lshr, eq, below, ite, concat, extract}
+use Rattle.operators.specs.Table.{Kind, variable, constant, inv, conj, xor, add, mul, shl, lshr, eq, below, ite, concat, extract, slt, ashr, sext}
+use Rattle.operators.specs.Meaning.{signedLess, signedShift, extended}
 
 abbrev pub pair : ℕ → ℕ → Pair
 pair l h = record { lo = l; hi = h }
@@ -69,7 +71,33 @@ lshrPair w p q = either (fixed q) (pair (p .lo / 2 ^ q .lo) (p .hi / 2 ^ q .lo))
 abbrev pub itePair : Pair → Pair → Pair → Pair
 itePair p q r = either (fixed p) (branch (p .lo) q r) (pair (bitAnd (q .lo) (r .lo)) (bitOr (q .hi) (r .hi)))
 
--- the pair of a node of kinds 2 to 13 whose operands have the pairs p, q, r
+-- ---- signed words (02, R-1)
+
+-- the sign of a over the other bits of b
+abbrev pub signOver : ℕ → ℕ → ℕ → ℕ
+signOver w a b = over (w - 1) a (b % 2 ^ (w - 1))
+
+-- the signed least value of a pair has its sign set if it can be, and every other bit clear if it can be; the greatest the other way round
+abbrev pub signedLeast : ℕ → Pair → ℕ
+signedLeast w p = signOver w (p .hi) (p .lo)
+
+abbrev pub signedMost : ℕ → Pair → ℕ
+signedMost w p = signOver w (p .lo) (p .hi)
+
+-- signed below, of operands of w bits: "decided when the signed least and greatest values of the pairs decide it, else free"
+abbrev pub sltPair : ℕ → Pair → Pair → Pair
+sltPair w p q =
+    either (signedLess w (signedMost w p) (signedLeast w q)) (pair 1 1) (either (signedLess w (signedLeast w p) (signedMost w q)) (pair 0 1) (pair 0 0))
+
+-- arithmetic shift: "as lshr with the sign's ternary bit filling"
+abbrev pub ashrPair : ℕ → Pair → Pair → Pair
+ashrPair w p q = either (fixed q) (pair (signedShift w (p .lo) (q .lo)) (signedShift w (p .hi) (q .lo))) (anyOf w)
+
+-- sign extension: "the top bit's state is copied"
+abbrev pub sextPair : ℕ → ℕ → Pair → Pair
+sextPair wa w p = pair (extended wa w (p .lo)) (extended wa w (p .hi))
+
+-- the pair of an inner node whose operands have the pairs p, q, r
 abbrev pub pairOf : Kind → ℕ → ℕ → ℕ → ℕ → Pair → Pair → Pair → Pair
 pairOf variable w wa wb low p q r = pair 0 0
 pairOf constant w wa wb low p q r = pair 0 0
@@ -85,3 +113,6 @@ pairOf below w wa wb low p q r = belowPair p q
 pairOf ite w wa wb low p q r = itePair p q r
 pairOf concat w wa wb low p q r = pair (p .lo * 2 ^ wb + q .lo) (p .hi * 2 ^ wb + q .hi)
 pairOf extract w wa wb low p q r = pair (p .lo / 2 ^ low % 2 ^ w) (p .hi / 2 ^ low % 2 ^ w)
+pairOf slt w wa wb low p q r = sltPair wa p q
+pairOf ashr w wa wb low p q r = ashrPair w p q
+pairOf sext w wa wb low p q r = sextPair wa w p

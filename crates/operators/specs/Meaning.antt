@@ -5,9 +5,10 @@ use mathlib.Core.Bool.{Bool, true, false}
 use Prim.Native.Nat.{ℕ, zero, suc, _+_, _-_, _*_, _/_, _%_, _^_, _≤_, _<_}
 use lib.Bits.{bitAnd, bitXor}
 use lib.Dec.{eqb, ltb}
+use Rattle.words.specs.Bits.{bit}
 use Rattle.operators.specs.declared.table.Rule.{Rule}
-use Rattle.operators.specs.declared.table.Rule.the-variants.{Free, One, Both, Equal, Choice, Sum, Part}
-use Rattle.operators.specs.Table.{Kind, variable, constant, inv, conj, xor, add, mul, shl, lshr, eq, below, ite, concat, extract}
+use Rattle.operators.specs.declared.table.Rule.the-variants.{Free, One, Both, Equal, Choice, Sum, Part, Longer}
+use Rattle.operators.specs.Table.{Kind, variable, constant, inv, conj, xor, add, mul, shl, lshr, eq, below, ite, concat, extract, slt, ashr, sext}
 
 -- the one bit that tells a test
 abbrev pub flag : Bool → ℕ
@@ -18,6 +19,33 @@ flag false = 0
 abbrev pub choose : ℕ → ℕ → ℕ → ℕ
 choose zero b c = c
 choose (suc a) b c = b
+
+-- ---- signed words (02, R-1)
+
+-- the highest of w bits
+abbrev pub sign : ℕ → ℕ → ℕ
+sign w x = bit (w - 1) x
+
+-- of two signs and whether x is below y
+abbrev pub bySigns : ℕ → ℕ → Bool → Bool
+bySigns zero zero t = t
+bySigns zero (suc q) t = false
+bySigns (suc p) zero t = true
+bySigns (suc p) (suc q) t = t
+
+-- bvslt, of words of w bits: x is negative and y is not, or their signs are the same and x is below y
+abbrev pub signedLess : ℕ → ℕ → ℕ → Bool
+signedLess w x y = bySigns (sign w x) (sign w y) (ltb x y)
+
+-- bvashr: x shifted right, or where x is negative the complement of its complement shifted right
+abbrev pub signedShift : ℕ → ℕ → ℕ → ℕ
+signedShift w x y = choose (sign w x) ((2 ^ w - 1) - ((2 ^ w - 1) - x) / 2 ^ y) (x / 2 ^ y)
+
+-- sign_extend: the sign repeated over the wa bits of x
+abbrev pub extended : ℕ → ℕ → ℕ → ℕ
+extended wa w x = sign wa x * (2 ^ (w - wa) - 1) * 2 ^ wa + x
+
+-- ---- by kind
 
 -- "Sums and products are taken modulo 2^w. A shift by w or more gives 0." (Variables and constants have no operator.)
 abbrev pub meaning : Kind → ℕ → ℕ → ℕ → ℕ → ℕ → ℕ → ℕ → ℕ
@@ -35,13 +63,17 @@ meaning below w wa wb low x y z = flag (ltb x y)
 meaning ite w wa wb low x y z = choose x y z
 meaning concat w wa wb low x y z = x * 2 ^ wb + y
 meaning extract w wa wb low x y z = x / 2 ^ low % 2 ^ w
+meaning slt w wa wb low x y z = flag (signedLess wa x y)
+meaning ashr w wa wb low x y z = signedShift w x y
+meaning sext w wa wb low x y z = extended wa w x
 
 -- the operands' values x, y, z are of the widths that the width rule gives them
 abbrev pub Fit : Rule → ℕ → ℕ → ℕ → ℕ → ℕ → ℕ → ℕ → Type 0
 Fit Free w wa wb low x y z = Unit {0}
 Fit One w wa wb low x y z = x < 2 ^ w
 Fit Both w wa wb low x y z = (x < 2 ^ w) × (y < 2 ^ w)
-Fit Equal w wa wb low x y z = Unit {0}
+Fit Equal w wa wb low x y z = (1 ≤ wa) × (wa ≤ 64) × (x < 2 ^ wa) × (y < 2 ^ wa)
 Fit Choice w wa wb low x y z = (x < 2) × (y < 2 ^ w) × (z < 2 ^ w)
 Fit Sum w wa wb low x y z = (wa + wb ≡ w) × (1 ≤ wa) × (x < 2 ^ wa) × (y < 2 ^ wb)
 Fit Part w wa wb low x y z = (low + w ≤ wa) × (wa ≤ 64) × (x < 2 ^ wa)
+Fit Longer w wa wb low x y z = (1 ≤ wa) × (wa < w) × (x < 2 ^ wa)

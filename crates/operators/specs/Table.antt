@@ -1,15 +1,16 @@
--- Document 01's table of kinds: the number of each, its operands, the fields that it uses, and its width rule.
+-- Document 01's table of kinds, with those of 02's R-1: the number of each, its operands, the fields that it uses, and its width rule.
 use mathlib.Core.Path.{_≡_}
 use mathlib.Core.Bool.{Bool, true, _&&_}
 use mathlib.Core.List.{List, [], _∷_}
-use Prim.Native.Nat.{ℕ, _+_, _≤_}
-use lib.Dec.{eqb, leb}
+use Prim.Native.Nat.{ℕ, _+_, _≤_, _<_}
+use lib.Dec.{eqb, leb, ltb}
 use lib.ListN.{length, getD}
 use Rattle.operators.specs.declared.table.Rule.{Rule}
-use Rattle.operators.specs.declared.table.Rule.the-variants.{Free, One, Both, Equal, Choice, Sum, Part}
+use Rattle.operators.specs.declared.table.Rule.the-variants.{Free, One, Both, Equal, Choice, Sum, Part, Longer}
 use Rattle.operators.specs.declared.table.Shape.{Shape}
 
--- the kinds, in the order of their numbers: inv, conj and ite are the table's not, and, if
+-- the kinds, in the order of their numbers: inv, conj and ite are the table's not, and, if; slt, ashr and sext are R-1's signed below, arithmetic
+-- shift and sign extension
 pub data Kind : Type 0 where
   variable : Kind
   constant : Kind
@@ -25,9 +26,12 @@ pub data Kind : Type 0 where
   ite : Kind
   concat : Kind
   extract : Kind
+  slt : Kind
+  ashr : Kind
+  sext : Kind
 
 abbrev pub kinds : List Kind
-kinds = variable ∷ constant ∷ inv ∷ conj ∷ xor ∷ add ∷ mul ∷ shl ∷ lshr ∷ eq ∷ below ∷ ite ∷ concat ∷ extract ∷ []
+kinds = variable ∷ constant ∷ inv ∷ conj ∷ xor ∷ add ∷ mul ∷ shl ∷ lshr ∷ eq ∷ below ∷ ite ∷ concat ∷ extract ∷ slt ∷ ashr ∷ sext ∷ []
 
 -- how many kinds there are
 abbrev pub kindCount : ℕ
@@ -56,6 +60,9 @@ shape below = row 2 2 Equal
 shape ite = row 3 3 Choice
 shape concat = row 2 2 Sum
 shape extract = row 1 2 Part
+shape slt = row 2 2 Equal
+shape ashr = row 2 2 Both
+shape sext = row 1 1 Longer
 
 abbrev pub shapeOf : ℕ → Shape
 shapeOf n = shape (kindOf n)
@@ -69,6 +76,7 @@ RuleMet Equal w wa wb wc b = (wa ≡ wb) × (w ≡ 1)
 RuleMet Choice w wa wb wc b = (wa ≡ 1) × (wb ≡ w) × (wc ≡ w)
 RuleMet Sum w wa wb wc b = wa + wb ≡ w
 RuleMet Part w wa wb wc b = b + w ≤ wa
+RuleMet Longer w wa wb wc b = wa < w
 
 -- the same as a test
 unfoldable pub ruleHolds : Rule → ℕ → ℕ → ℕ → ℕ → ℕ → Bool
@@ -79,3 +87,4 @@ ruleHolds Equal w wa wb wc b = eqb wa wb && eqb w 1
 ruleHolds Choice w wa wb wc b = eqb wa 1 && eqb wb w && eqb wc w
 ruleHolds Sum w wa wb wc b = eqb (wa + wb) w
 ruleHolds Part w wa wb wc b = leb (b + w) wa
+ruleHolds Longer w wa wb wc b = ltb wa w

@@ -3,26 +3,23 @@ use crate::meaning::Op;
 use crate::meaning::flip;
 use crate::meaning::join;
 use crate::meaning::left;
+use crate::meaning::ones;
 use crate::meaning::part;
 use crate::meaning::right;
+use crate::signed::extend;
+use crate::signed::less_signed;
+use crate::signed::right_signed;
 ghost use mathlib.Core.Path.{_≡_};
-ghost use Prim.Native.Nat.{_-_, _^_, _≤_};
+ghost use Prim.Native.Nat.{_^_, _≤_, _<_};
 ghost use Rattle.operators.specs.Table.{kindOf};
-ghost use Rattle.operators.specs.Fixed.{anyOf, known, lowest, upTo, apart, eqPair, belowPair, shlPair, lshrPair, itePair, pairOf};
-ghost use Rattle.operators.specs.inner.Ready.{PairsReady};
+ghost use Rattle.operators.specs.Fixed.{anyOf, known, lowest, upTo, apart, eqPair, belowPair, shlPair, lshrPair, itePair, signOver, sltPair, ashrPair, sextPair, pairOf};
+ghost use Rattle.operators.specs.Meaning.{signedLess};
+ghost use Rattle.operators.specs.inner.Ready.{Ternary, PairsReady};
 
 // A ternary word: lo has no bit that hi lacks, and a bit is fixed where the two agree.
 pub struct Pair {
     pub lo: u64,
     pub hi: u64,
-}
-
-// w ones.
-fn ones(w: u32) -> u64
-    requires { ⌜ w ≤ 64 ⌝ }
-    ensures { λ r. ⌜ r ≡ 2 ^ w - 1 ⌝ }
-{
-    words::cut(u64::MAX, w)
 }
 
 // All w bits free.
@@ -156,13 +153,71 @@ fn if_pair(p: Pair, q: Pair, r: Pair) -> Pair
     }
 }
 
-// The pair of a node of kinds 2 to 13, from its operands' pairs.
+// The sign of a over the other bits of b.
+fn sign_over(a: u64, b: u64, w: u32) -> u64
+    requires { ⌜ (1 ≤ w) × (w ≤ 64) ⌝ }
+    ensures { λ r. ⌜ r ≡ signOver w a b ⌝ }
+{
+    words::set_low(a, w - 1, words::cut(b, w - 1))
+}
+
+// Whether the sign of a over the other bits of b is below the sign of c over the other bits of d.
+fn less_over(a: u64, b: u64, c: u64, d: u64, w: u32) -> bool
+    requires { ⌜ (1 ≤ w) × (w ≤ 64) × (a < 2 ^ w) × (c < 2 ^ w) ⌝ }
+    ensures { λ r. ⌜ r ≡ signedLess w (signOver w a b) (signOver w c d) ⌝ }
+{
+    less_signed(sign_over(a, b, w), sign_over(c, d, w), w)
+}
+
+// Signed below, of operands of w bits: 1 or 0 where the signed extremes decide it, else free.
+fn slt_pair(p: Pair, q: Pair, w: u32) -> Pair
+    requires { ⌜ (1 ≤ w) × (w ≤ 64) × Ternary w p × Ternary w q ⌝ }
+    ensures { λ r. ⌜ r ≡ sltPair w p q ⌝ }
+{
+    if less_over(p.lo, p.hi, q.hi, q.lo, w) {
+        return Pair { lo: 1, hi: 1 };
+    }
+    if less_over(p.hi, p.lo, q.lo, q.hi, w) {
+        return Pair { lo: 0, hi: 1 };
+    }
+    Pair { lo: 0, hi: 0 }
+}
+
+// Arithmetic shift: with a fixed amount the shifted pair, else all free.
+fn ashr_pair(p: Pair, q: Pair, w: u32) -> Pair
+    requires { ⌜ (1 ≤ w) × (w ≤ 64) × Ternary w p ⌝ }
+    ensures { λ r. ⌜ r ≡ ashrPair w p q ⌝ }
+{
+    let s = q.lo;
+    if s == q.hi {
+        Pair {
+            lo: right_signed(p.lo, s, w),
+            hi: right_signed(p.hi, s, w),
+        }
+    } else {
+        any_of(w)
+    }
+}
+
+// Sign extension from k bits to w.
+fn sext_pair(p: Pair, k: u32, w: u32) -> Pair
+    requires { ⌜ (1 ≤ k) × (k ≤ w) × (w ≤ 64) × Ternary k p ⌝ }
+    ensures { λ r. ⌜ r ≡ sextPair k w p ⌝ }
+{
+    Pair {
+        lo: extend(p.lo, k, w),
+        hi: extend(p.hi, k, w),
+    }
+}
+
+// The pair of an inner node, from its operands' pairs.
 pub fn pair_of(op: Op, p: Pair, q: Pair, r: Pair) -> Pair
     requires { ⌜ PairsReady op p q r ⌝ }
     ensures { λ v. ⌜ v ≡ pairOf (kindOf (op .kind)) (op .width) (op .wa) (op .wb) (op .low) p q r ⌝ }
 {
     let kind = op.kind;
     let w = op.width;
+    let j = op.wa;
     let k = op.wb;
     let low = op.low;
     match kind {
@@ -186,9 +241,13 @@ pub fn pair_of(op: Op, p: Pair, q: Pair, r: Pair) -> Pair
             lo: join(p.lo, q.lo, k),
             hi: join(p.hi, q.hi, k),
         },
-        _ => Pair {
+        13 => Pair {
             lo: part(p.lo, low, w),
             hi: part(p.hi, low, w),
         },
+        14 => slt_pair(p, q, j),
+        15 => ashr_pair(p, q, w),
+        16 => sext_pair(p, j, w),
+        0..=1 | 17..=255 => Pair { lo: 0, hi: 0 },
     }
 }

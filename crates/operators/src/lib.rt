@@ -1,7 +1,8 @@
-// The operators of document 01: the table of kinds, what each operator means, and the fixed bits of one node.
+// The operators of documents 01 and 02: the table of kinds, what each operator means, and the fixed bits of one node.
 // Callers write operators::value, operators::Pair: the modules are for the reader.
 mod fixed;
 mod meaning;
+mod signed;
 mod table;
 
 pub use fixed::Pair;
@@ -10,6 +11,8 @@ pub use meaning::Op;
 pub use meaning::flip;
 pub use meaning::part;
 pub use meaning::value;
+pub use signed::extend;
+pub use signed::half;
 pub use table::KINDS;
 pub use table::Rule;
 pub use table::Shape;

@@ -1,4 +1,7 @@
 // What each operator gives on its operands' values, in word operations.
+use crate::signed::below_signed;
+use crate::signed::extend;
+use crate::signed::right_signed;
 ghost use mathlib.Core.Path.{_≡_};
 ghost use Prim.Native.Nat.{_+_, _-_, _*_, _/_, _%_, _^_, _≤_, _<_};
 ghost use lib.ListN.{length, getD};
@@ -13,6 +16,14 @@ pub struct Op {
     pub wa: u32,
     pub wb: u32,
     pub low: u32,
+}
+
+// w ones.
+pub(crate) fn ones(w: u32) -> u64
+    requires { ⌜ w ≤ 64 ⌝ }
+    ensures { λ r. ⌜ r ≡ 2 ^ w - 1 ⌝ }
+{
+    words::cut(u64::MAX, w)
 }
 
 // not a, of w bits.
@@ -82,7 +93,7 @@ fn read(held: &[u64], id: u16) -> u64
     held[id as usize]
 }
 
-// The value of an operator of kinds 2 to 13 on its operands' values, which stand in a list at the ids a, b and c. Each arm reads
+// The value of an operator on its operands' values, which stand in a list at the ids a, b and c. Each arm reads
 // what its kind uses, so that no node pays for another's operands. Operand b of a concat is as wide as operand a leaves: its
 // own width is not looked at, because field b is not always an id, and a caller would have to test it for every kind.
 pub fn value(op: Op, held: &[u64], a: u16, b: u16, c: u16) -> u64
@@ -110,6 +121,10 @@ pub fn value(op: Op, held: &[u64], a: u16, b: u16, c: u16) -> u64
             read(held, b)
         },
         12 => join(read(held, a), read(held, b), w - op.wa),
-        _ => part(read(held, a), op.low, w),
+        13 => part(read(held, a), op.low, w),
+        14 => below_signed(read(held, a), read(held, b), op.wa),
+        15 => right_signed(read(held, a), read(held, b), w),
+        16 => extend(read(held, a), op.wa, w),
+        0..=1 | 17..=255 => 0,
     }
 }

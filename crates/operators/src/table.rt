@@ -1,4 +1,4 @@
-// Document 01's table of kinds as a constant table, read by the checks: operand count, used fields and width rule.
+// The table of kinds as a constant table, read by the checks: operand count, used fields and width rule.
 ghost use mathlib.Core.Path.{_≡_};
 ghost use Rattle.operators.specs.Table.{shapeOf, ruleHolds};
 
@@ -8,9 +8,9 @@ pub enum Rule {
     Free,
     // not: a = w
     One,
-    // and, xor, add, mul, shl, lshr: both w
+    // and, xor, add, mul, shl, lshr, ashr: both w
     Both,
-    // eq, below: equal; w = 1
+    // eq, below, slt: equal; w = 1
     Equal,
     // if: a = 1; b, c = w
     Choice,
@@ -18,6 +18,8 @@ pub enum Rule {
     Sum,
     // extract: field b is the lowest bit; b + w at most a's width
     Part,
+    // sext: w greater than a's width
+    Longer,
 }
 
 // What a kind uses: so many operands, so many of the fields a, b, c, and its width rule.
@@ -28,7 +30,7 @@ pub struct Shape {
 }
 
 // How many kinds there are: who asks whether a number is a kind's reads this.
-pub const KINDS: u8 = 14;
+pub const KINDS: u8 = 17;
 
 const SHAPES: [Shape; KINDS as usize] = [
     // 0 variable, 1 constant
@@ -110,6 +112,24 @@ const SHAPES: [Shape; KINDS as usize] = [
         fields: 2,
         rule: Rule::Part,
     },
+    // 14 slt
+    Shape {
+        operands: 2,
+        fields: 2,
+        rule: Rule::Equal,
+    },
+    // 15 ashr
+    Shape {
+        operands: 2,
+        fields: 2,
+        rule: Rule::Both,
+    },
+    // 16 sext
+    Shape {
+        operands: 1,
+        fields: 1,
+        rule: Rule::Longer,
+    },
 ];
 
 // The row of a kind; a number that is no kind's has the row of a variable.
@@ -132,10 +152,10 @@ pub fn operand_count(kind: u8) -> u8
     ensures { λ r. ⌜ r ≡ shapeOf kind .operands ⌝ }
 {
     match kind {
-        2 | 13 => 1,
+        2 | 13 | 16 => 1,
         11 => 3,
-        3..=12 => 2,
-        _ => 0,
+        3..=10 | 12 | 14..=15 => 2,
+        0..=1 | 17..=255 => 0,
     }
 }
 
@@ -151,5 +171,6 @@ pub fn rule_holds(rule: Rule, w: u8, wa: u8, wb: u8, wc: u8, b: u16) -> bool
         Rule::Choice => (wa == 1) & (wb == w) & (wc == w),
         Rule::Sum => (wa as u16) + (wb as u16) == (w as u16),
         Rule::Part => (b as u32) + (w as u32) <= (wa as u32),
+        Rule::Longer => wa < w,
     }
 }

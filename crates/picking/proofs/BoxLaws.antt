@@ -1,18 +1,19 @@
 -- Laws of boxes and of sets: what the parts of the pick need, and how a set is shown to hold an equation's solutions.
 use mathlib.Core.Path.{_≡_, refl, sym, ap, _∙_, subst}
 use mathlib.Core.Bool.{Bool, true}
-use mathlib.Core.Logic.{_⊎_, inl, inr}
-use Prim.Native.Nat.{ℕ, _+_, _-_, _*_, _%_, _^_, _≤_, _<_, zero-le}
-use native.Mathlib.Nat.{le-of-eq, le-antisymm, lt-of-lt-of-le, mod-eq-of-lt, zero-div}
+use mathlib.Core.Logic.{_⊎_, inl, inr, ⊎-elim}
+use Prim.Native.Nat.{ℕ, zero, suc, _+_, _-_, _*_, _%_, _^_, _≤_, _<_, zero-le}
+use native.Mathlib.Nat.{le-of-eq, le-of-lt, le-antisymm, lt-of-lt-of-le, mod-lt, mod-eq-of-lt, mul-le-mul, zero-div}
 use native.Mathlib.Omega.{arith}
 use lib.Bits.{bitAnd}
 use lib.Dec.{eqb}
-use lib.Pow.{pow-mono, le-ones}
+use lib.Arith.{sub-sub-self}
+use lib.Pow.{pow-pos, pow-mono, le-ones, ones-sub-lt}
 use borrow.Author.Tests.{eqb-true, eq-eqb}
 use Rattle.words.specs.declared.found.Found.{Found}
-use Rattle.words.specs.laws.Bits.{lt-or-ge}
-use Rattle.words.specs.Agree.{Agrees}
-use Rattle.words.specs.laws.Agree.{agrees-of-within, lo-within, within-hi, within-le, within-mod, within-trans, within-zero, within-ones}
+use Rattle.words.specs.laws.Bits.{bit-cut, bit-cut-high, lt-or-ge}
+use Rattle.words.specs.Agree.{Agrees, Within}
+use Rattle.words.specs.laws.Agree.{within-of-bits, agrees-of-within, lo-within, within-hi, within-le, within-mod, within-not, within-trans, within-zero, within-ones}
 use Rattle.words.specs.laws.Meet.{both-to, both-back}
 use Rattle.words.specs.inner.Words.{over}
 use Rattle.words.specs.laws.Narrow.{over-mod, narrow-to}
@@ -21,7 +22,7 @@ use Rattle.words.specs.laws.Pick.{picked-same}
 use Rattle.picking.specs.declared.boxes.Box.{Box}
 use Rattle.picking.specs.declared.boxes.Set.{Set}
 use Rattle.picking.specs.declared.boxes.Set.the-variants.{Empty, Only, One}
-use Rattle.picking.specs.inner.Boxes.{In, span, word, lowAre, met, Chosen, Solves, Every}
+use Rattle.picking.specs.inner.Boxes.{In, span, word, lowAre, mirrored, Bounded, shiftedTo, endAt, met, Chosen, Solves, Every}
 
 -- ---- the pick from a set
 
@@ -128,3 +129,55 @@ in-low n c v hc g =
 
 pub low-solves : (n c : ℕ) → c < 2 ^ n → Solves 64 (λ v. v % 2 ^ n ≡ c) (One (lowAre n c))
 low-solves n c hc = solves-one (lowAre n c) (λ v h m. in-low n c v hc (m .inside)) (λ v h m. in-word h (low-in n c v hc h m))
+
+-- ---- boxes as code makes them
+
+pub box-same : {l h a b l′ h′ a′ b′ : ℕ} → l ≡ l′ → h ≡ h′ → a ≡ a′ → b ≡ b′
+    → _≡_ {A = Box} (record { lo = l; hi = h; least = a; most = b }) (record { lo = l′; hi = h′; least = a′; most = b′ })
+box-same e f g k = rw (e, f, g, k)
+
+pub last-end : (a b j : ℕ) → (j ≡ 0 → ⊥) → span b (2 ^ 64 - 1) ≡ endAt a b j
+last-end a b zero f = absurd (f refl)
+last-end a b (suc j) f = refl
+
+pub shifted-bounded : (w u j : ℕ) → u * 2 ^ j + 2 ^ j ≤ 2 ^ w → Bounded w (shiftedTo u j)
+shifted-bounded w u j h = record { low = pow-pos w; from = omega (arith, pow-pos j); upto = omega (arith, pow-pos j) }
+
+-- ---- the complement of a box is a box
+
+-- twice the complement
+pub not-not : (w : ℕ) {v : ℕ} → v < 2 ^ w → (2 ^ w - 1) - ((2 ^ w - 1) - v) ≡ v
+not-not w h = sub-sub-self (le-ones w h)
+
+within-cut : (w h : ℕ) → Within (h % 2 ^ w) h
+within-cut w h =
+    within-of-bits (h % 2 ^ w) h
+    (λ i. ⊎-elim (λ (l : i < w). le-of-eq (bit-cut i h w l)) (λ (l : w ≤ i). rw (bit-cut-high i h w l) zero-le) (lt-or-ge i w))
+
+module _ {w : ℕ} {b : Box} (bound : Bounded w b) {v : ℕ} (hv : v < 2 ^ w) where
+  cut-lt : b .hi % 2 ^ w < 2 ^ w
+  cut-lt = mod-lt (b .hi) (pow-pos w)
+
+  pub in-mirror : In b v → In (mirrored w b) ((2 ^ w - 1) - v)
+  in-mirror m = record {
+    inside = agrees-of-within
+        (within-not w hv cut-lt (rw (mod-eq-of-lt hv) at (within-mod w (within-hi (m .inside)))))
+        (within-not w (bound .low) hv (lo-within (m .inside)));
+    after = omega (arith, m .upto);
+    upto = omega (arith, m .after);
+  }
+
+  pub mirror-in : In (mirrored w b) v → In b ((2 ^ w - 1) - v)
+  mirror-in m = record {
+    inside = agrees-of-within
+        (rw (not-not w (bound .low)) at (within-not w hv (ones-sub-lt w (b .lo)) (within-hi (m .inside))))
+        (within-trans (rw (not-not w cut-lt) at (within-not w (ones-sub-lt w (b .hi % 2 ^ w)) hv (lo-within (m .inside)))) (within-cut w (b .hi)));
+    after = omega (arith, m .upto, bound .from);
+    upto = omega (arith, m .after, bound .upto);
+  }
+
+-- the box of P, mirrored, is that of P for the complement
+pub mirror-solves : {w : ℕ} {P : ℕ → Type 0} {b : Box} → Bounded w b → Solves w P (One b) → Solves w (λ v. P ((2 ^ w - 1) - v)) (One (mirrored w b))
+mirror-solves {w} {P} {b} bound s =
+    solves-one (mirrored w b) (λ v h m. s .to ((2 ^ w - 1) - v) (ones-sub-lt w v) (mirror-in bound h m))
+    (λ v h p. subst (In (mirrored w b)) (not-not w h) (in-mirror bound (ones-sub-lt w v) (s .back ((2 ^ w - 1) - v) (ones-sub-lt w v) p)))

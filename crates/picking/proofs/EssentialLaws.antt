@@ -3,6 +3,7 @@ use mathlib.Core.Path.{_≡_, refl, sym, ap, _∙_, subst}
 use mathlib.Core.Bool.{Bool, true, false, not, _||_}
 use mathlib.Core.Logic.{_⊎_, inl, inr, ⊎-elim}
 use Prim.Native.Nat.{ℕ, zero, suc, _-_, _/_, _%_, _^_, _≤_, _<_}
+use native.Mathlib.Nat.{le-of-lt}
 use native.Mathlib.Omega.{arith}
 use lib.Dec.{T, eqb}
 use borrow.Author.Tests.{eqb-true, eqb-false}
@@ -15,12 +16,12 @@ use Rattle.words.specs.laws.Decides.{decides-same, decides-not, decides-eq}
 use Rattle.words.specs.Pick.{Empty, Picked}
 use Rattle.words.specs.laws.Pick.{pick-member}
 use Rattle.operators.specs.Table.{kindOf}
-use Rattle.operators.specs.Meaning.{meaning}
+use Rattle.operators.specs.Meaning.{extended, meaning}
 use Rattle.picking.specs.declared.spot.Three.{Three}
 use Rattle.picking.specs.declared.spot.Spot.{Spot}
 use Rattle.picking.specs.Spot.{at, put, positions, Other, value, Inverse, Essential, Fair, Asked}
 use Rattle.picking.specs.laws.Positions.{at-put-same, at-put-other, value-used}
-use Rattle.picking.specs.inner.Asks.{branchOf, Had}
+use Rattle.picking.specs.inner.Asks.{branchOf, Alone, Had}
 use Rattle.picking.proofs.ChoiceLaws.{chosen-at}
 use Rattle.picking.proofs.SpotLaws.{slot-lt, count-at, rule-at, slot-at, two-by-two, other-of}
 
@@ -34,7 +35,7 @@ pub decides-is : (a : Bool) → Decides (a ≡ true) a
 decides-is true = refl
 decides-is false = λ e. subst T (sym e) tt
 
--- ---- of one position, as not and extract have: no others can help
+-- ---- of one position, as not, extract and sign extension have: no others can help
 module _ (S : Spot) (F : Fair S) where
   -- what code asks of the operator, and what it is told
   pub not-fits : S .kind ≡ 2 → S .current .a < 2 ^ S .width
@@ -49,8 +50,20 @@ module _ (S : Spot) (F : Fair S) where
   pub extract-value : S .kind ≡ 13 → S .current .a / 2 ^ S .low % 2 ^ S .width ≡ value S (S .current)
   extract-value e = rw e
 
-  pub alone-one : (S .kind ≡ 2) ⊎ (S .kind ≡ 13) → positions S ≡ 1
-  alone-one = ⊎-elim (count-at F) (count-at F)
+  pub sext-fits : S .kind ≡ 16 → (1 ≤ S .widths .a) × (S .widths .a ≤ S .width) × (S .width ≤ 64) × (S .current .a < 2 ^ S .widths .a)
+  sext-fits e = let s = slot-at F e 0 (omega arith) in (s .some, le-of-lt (rule-at F e), F .wide, slot-lt s)
+
+  pub sext-value : S .kind ≡ 16 → extended (S .widths .a) (S .width) (S .current .a) ≡ value S (S .current)
+  sext-value e = rw e
+
+  pub alone-one : Alone (S .kind) → positions S ≡ 1
+  alone-one = ⊎-elim (count-at F) (⊎-elim (count-at F) (count-at F))
+
+-- the last of the three kinds
+pub third : {n : ℕ} → Alone n → (n ≡ 2 → ⊥) → (n ≡ 13 → ⊥) → n ≡ 16
+third (inl e) f g = absurd (f e)
+third (inr (inl e)) f g = absurd (g e)
+third (inr (inr e)) f g = e
 
 pub alone : (S : Spot) (t r : ℕ) → positions S ≡ 1 → r ≡ value S (S .current) → Decides (Essential S t 0) (not (eqb r t))
 unfolding Essential

@@ -8,5 +8,6 @@ pub mod EssentialLaws
 pub mod JoiningLaws
 pub mod KindLaws
 pub mod ShiftLaws
+pub mod SignedLaws
 pub mod SpotLaws
 pub mod UnionLaws

@@ -14,14 +14,14 @@ use Rattle.words.specs.inner.Words.{Tail, Top}
 use Rattle.words.specs.laws.Zeros.{tail-lt, tail-unique, top-lt, top-unique}
 use Rattle.picking.specs.declared.boxes.Set.{Set}
 use Rattle.picking.specs.declared.boxes.Set.the-variants.{One, Many}
-use Rattle.picking.specs.declared.unions.Shifts.the-variants.{Left, Right}
-use Rattle.picking.specs.declared.unions.Union.the-variants.{Shifted}
+use Rattle.picking.specs.declared.unions.Row.the-variants.{Left, Right}
+use Rattle.picking.specs.declared.unions.Union.the-variants.{Several}
 use Rattle.picking.specs.inner.Boxes.{Among, span, Solves, Some}
 use Rattle.picking.specs.inner.Asks.{Sized, joint}
 use Rattle.picking.proofs.BoxLaws.{in-low, low-in, in-word, in-span, span-solves, solves-by}
 
 -- an amount of w is a value of w bits
-grow : (n : ℕ) → n < 2 ^ n
+pub grow : (n : ℕ) → n < 2 ^ n
 grow zero = le-refl 1
 grow (suc n) = step (2 ^ n) (2 ^ suc n) (grow n) (pow-suc 2 n)
   where
@@ -123,7 +123,7 @@ module _ {w t j : ℕ} (z : Sized w t) (f : t ≡ 0 → ⊥) (tail : Tail 64 t j
   within s v m =
       ⊎-elim (λ (l : s < w). tail-le s tail (shl-clear w s v t (le-of-lt l) m)) (λ (l : w ≤ s). absurd (f (sym m ∙ shl-past w s v l))) (lt-or-ge s w)
 
-  pub some-shl : Solves w (λ v. Some w (λ s. v * 2 ^ s % 2 ^ w ≡ t)) (Many (Shifted (Left t w) (j + 1)))
+  pub some-shl : Solves w (λ v. Some w (λ s. v * 2 ^ s % 2 ^ w ≡ t)) (Many (Several (Left t w) (j + 1)))
   some-shl = record { fine = (omega (arith, j-lt), z .wide, z .fits); to = to; back = back }
     where
       to : (v : ℕ) → v < 2 ^ w → Among (Left t w) (j + 1) v → Some w (λ s. v * 2 ^ s % 2 ^ w ≡ t)
@@ -161,7 +161,7 @@ lshr-none s t h v l e = not-le-of-lt h (le-trans (le-of-eq (sym e)) (shr-mono s 
 span-to : (s t v : ℕ) → t * 2 ^ s ≤ v → v ≤ t * 2 ^ s + (2 ^ s - 1) → v / 2 ^ s ≡ t
 span-to s t v a b = div-eq-of-lt-le (2 ^ s) {m = v} a (omega (arith, b, pow-pos s))
 
-span-back : (s t v : ℕ) → v / 2 ^ s ≡ t → (t * 2 ^ s ≤ v) × (v ≤ t * 2 ^ s + (2 ^ s - 1))
+pub span-back : (s t v : ℕ) → v / 2 ^ s ≡ t → (t * 2 ^ s ≤ v) × (v ≤ t * 2 ^ s + (2 ^ s - 1))
 span-back s t v m =
     let e : v / 2 ^ s * 2 ^ s ≡ t * 2 ^ s = ap (λ (n : ℕ). n * 2 ^ s) m in
     (omega (arith, div-mul-le-self v (2 ^ s)), omega (arith, lt-div-mul-add {a = v} (pow-pos s)))
@@ -170,7 +170,7 @@ pub lshr-span : (s t : ℕ) → Solves 64 (λ v. v / 2 ^ s ≡ t) (One (span (t 
 lshr-span s t = solves-by (le-refl 64) (span-solves (t * 2 ^ s) (t * 2 ^ s + (2 ^ s - 1))) (λ v l m. span-to s t v (m .0) (m .1)) (λ v l m. span-back s t v m)
 
 -- t with s bits more is a word
-fit-ring : (a b c : ℕ) → suc a ≤ c → a * b + b ≤ c * b
+pub fit-ring : (a b c : ℕ) → suc a ≤ c → a * b + b ≤ c * b
 fit-ring a b c h = le-trans (le-of-eq (ring a b)) (mul-le-mul-right b h)
   where
     ring : (a b : ℕ) → a * b + b ≡ suc a * b
@@ -222,15 +222,15 @@ some-lshr-zero (suc i) w v t h e = record { by = 0; fits = pow-pos w; gives = ze
 
 module _ {w t j : ℕ} (z : Sized w t) (top : Top 64 t j) where
   -- what t is shifted from is of w bits: the shift is below w - j
-  reach : (s v : ℕ) → v < 2 ^ w → v / 2 ^ s ≡ t → j + s < w
+  pub reach : (s v : ℕ) → v < 2 ^ w → v / 2 ^ s ≡ t → j + s < w
   reach s v h m =
       pow-cancel (j + s) w
       (lt-of-le-of-lt (le-trans (le-of-eq (pow-add 2 j s)) (le-trans (mul-le-mul-right (2 ^ s) (le-trans (top .from) (le-of-eq (sym m)))) (div-mul-le-self v (2 ^ s)))) h)
 
-  room : (s : ℕ) → j + s < w → t * 2 ^ s + 2 ^ s ≤ 2 ^ w
+  pub room : (s : ℕ) → j + s < w → t * 2 ^ s + 2 ^ s ≤ 2 ^ w
   room s l = le-trans (fit-ring t (2 ^ s) (2 ^ suc j) (top .below)) (le-trans (le-of-eq (sym (pow-add 2 (suc j) s))) (pow-mono (omega arith)))
 
-  pub some-lshr : Solves w (λ v. Some w (λ s. v / 2 ^ s ≡ t)) (Many (Shifted (Right t) (w - j)))
+  pub some-lshr : Solves w (λ v. Some w (λ s. v / 2 ^ s ≡ t)) (Many (Several (Right t) (w - j)))
   some-lshr = record { fine = (omega (arith, z .wide), λ s l. le-trans (room s (omega arith)) (pow-mono (z .wide))); to = to; back = back }
     where
       to : (v : ℕ) → v < 2 ^ w → Among (Right t) (w - j) v → Some w (λ s. v / 2 ^ s ≡ t)

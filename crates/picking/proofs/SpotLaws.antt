@@ -3,7 +3,7 @@ use mathlib.Core.Path.{_≡_, refl, sym, ap, _∙_}
 use mathlib.Core.Bool.{Bool, true, false}
 use mathlib.Core.Logic.{inl, inr}
 use Prim.Native.Nat.{ℕ, zero, suc, _+_, _-_, _%_, _^_, _≤_, _<_}
-use native.Mathlib.Nat.{le-refl, le-trans, le-of-eq, lt-of-lt-of-le, mod-lt, mod-eq-of-lt, add-mod-mod, add-mod-right}
+use native.Mathlib.Nat.{le-refl, le-trans, le-of-eq, le-of-lt, lt-of-lt-of-le, mod-lt, mod-eq-of-lt, add-mod-mod, add-mod-right}
 use native.Mathlib.Omega.{arith}
 use lib.Bits.{bitXor, xor-lt, xor-comm}
 use lib.Dec.{eqb}
@@ -124,6 +124,10 @@ joined-at {S} {i} {t} A key =
 pub extract-at : {S : Spot} {i t : ℕ} → Asked S i t → S .kind ≡ 13 → (1 ≤ S .width) × (S .low + S .width ≤ 64) × (t < 2 ^ S .width)
 extract-at A key = (A .fair .some, le-trans (rule-at (A .fair) key) (slot-at (A .fair) key 0 (omega arith) .wide), A .target)
 
+-- sign extension
+pub sext-at : {S : Spot} {i t : ℕ} → Asked S i t → S .kind ≡ 16 → (1 ≤ S .widths .a) × (S .widths .a ≤ S .width) × (S .width ≤ 64) × (t < 2 ^ S .width)
+sext-at A key = (slot-at (A .fair) key 0 (omega arith) .some, le-of-lt (rule-at (A .fair) key), A .fair .wide, A .target)
+
 side-at : (S : Spot) (i : ℕ) → i < 2 → sideOf i (S .widths .a) (S .widths .b) ≡ at (S .widths) i
 side-at S i h = two-of (λ i. sideOf i (S .widths .a) (S .widths .b) ≡ at (S .widths) i) i h refl refl
 
@@ -189,6 +193,13 @@ module _ {S : Spot} {i t m : ℕ} (A : Asked S i t) (key : S .kind ≡ m) where
 
     pub both-reach : {r : Set} → Solves (S .width) (λ v. Some (S .width) (λ s. opAt A key (joint i v s) ≡ t)) r → Solves (at (S .widths) i) (λ v. Reaches S t i v) r
     both-reach = reach-two A key (rw both) (both-wide A key both) (both-other A key both)
+
+  pub equal-lt : {y : ℕ} → shapeOf m ≡ row 2 2 Equal → y ≡ at (S .current) (1 - i) → y < 2 ^ S .widths .a
+  equal-lt equal e = rw (equal-width A key equal (1 - i) (omega arith)) at (other-lt A key (rw equal (omega arith)) e)
+
+  pub equal-arm : {y : ℕ} {r : Set} → shapeOf m ≡ row 2 2 Equal → y ≡ at (S .current) (1 - i) → Solves (S .widths .a) (λ v. opAt A key (joint i v y) ≡ t) r
+      → Solves (at (S .widths) i) (λ v. value S (put (S .current) i v) ≡ t) r
+  equal-arm equal = arm-two A key (rw equal) (le-of-eq (equal-width A key equal i (rw equal at (place A key))))
 
   pub equal-reach : {r : Set} → shapeOf m ≡ row 2 2 Equal → Solves (S .widths .a) (λ v. Some (S .widths .a) (λ s. opAt A key (joint i v s) ≡ t)) r → Solves (at (S .widths) i) (λ v. Reaches S t i v) r
   equal-reach equal = reach-two A key (rw equal) (le-of-eq (equal-width A key equal i (rw equal at (place A key)))) (equal-width A key equal (1 - i) (omega arith))

@@ -14,10 +14,10 @@ use Rattle.words.specs.laws.Meet.{lesser-first}
 use Rattle.words.specs.laws.Narrow.{over-div, over-mod}
 use Rattle.words.specs.Pick.{Empty as NoMember, Least, FirstFrom, NoneFrom}
 use Rattle.words.specs.laws.Pick.{first-same}
-use Rattle.picking.specs.declared.unions.Shifts.{Shifts}
-use Rattle.picking.specs.declared.unions.Shifts.the-variants.{Left, Right}
+use Rattle.picking.specs.declared.unions.Row.{Row}
+use Rattle.picking.specs.declared.unions.Row.the-variants.{Left, Right, Mirrored}
 use Rattle.picking.specs.declared.unions.Union.{Union}
-use Rattle.picking.specs.declared.unions.Union.the-variants.{Except, Low, Shifted}
+use Rattle.picking.specs.declared.unions.Union.the-variants.{Except, Low, Several}
 use Rattle.picking.specs.inner.Boxes.{In, met, boxOf, FineOf, ChosenOf}
 use Rattle.picking.proofs.BoxLaws.{met-to, met-back}
 
@@ -85,36 +85,41 @@ module _ (lo hi m p v : ℕ) (ordered : Within lo hi) (some : hi % 2 ^ m ≡ 0 �
   pub low-next : (u : ℕ) → Least (Agrees lo hi) (v + 1) u → ChosenOf (Low m) lo hi u
   low-next u b = record { agrees = b .member; has = next-some u (b .from) (b .least z z-agrees z-above) }
 
--- ---- what shifts take to their target
+-- ---- the boxes of a row
 
 -- no box yet, and one box more
-pub none-yet : (S : Shifts) (lo hi p : ℕ) → NoneFrom (ChosenOf (Shifted S 0) lo hi) p
+pub none-yet : (S : Row) (lo hi p : ℕ) → NoneFrom (ChosenOf (Several S 0) lo hi) p
 none-yet S lo hi p v m h = not-suc-le-zero (m .has .below)
 
-pub one-more : (S : Shifts) (lo hi p j : ℕ) (a b : Found) → FirstFrom (ChosenOf (Shifted S j) lo hi) p a → FirstFrom (In (met (boxOf S j) lo hi)) p b → FirstFrom (ChosenOf (Shifted S (j + 1)) lo hi) p (lesser a b)
+pub one-more : (S : Row) (lo hi p j : ℕ) (a b : Found) → FirstFrom (ChosenOf (Several S j) lo hi) p a → FirstFrom (In (met (boxOf S j) lo hi)) p b → FirstFrom (ChosenOf (Several S (j + 1)) lo hi) p (lesser a b)
 one-more S lo hi p j a b f g =
-    first-same (λ v. ChosenOf (Shifted S j) lo hi v ⊎ In (met (boxOf S j) lo hi) v) (ChosenOf (Shifted S (j + 1)) lo hi) to back p (lesser a b)
-    (lesser-first (ChosenOf (Shifted S j) lo hi) (In (met (boxOf S j) lo hi)) p a b f g)
+    first-same (λ v. ChosenOf (Several S j) lo hi v ⊎ In (met (boxOf S j) lo hi) v) (ChosenOf (Several S (j + 1)) lo hi) to back p (lesser a b)
+    (lesser-first (ChosenOf (Several S j) lo hi) (In (met (boxOf S j) lo hi)) p a b f g)
   where
-    to : (v : ℕ) → ChosenOf (Shifted S j) lo hi v ⊎ In (met (boxOf S j) lo hi) v → ChosenOf (Shifted S (j + 1)) lo hi v
+    to : (v : ℕ) → ChosenOf (Several S j) lo hi v ⊎ In (met (boxOf S j) lo hi) v → ChosenOf (Several S (j + 1)) lo hi v
     to v (inl m) = record { agrees = m .agrees; has = record { at = m .has .at; below = let h = m .has .below in omega arith; inside = m .has .inside } }
     to v (inr m) = let k = met-to (boxOf S j) lo hi v m in record { agrees = k .0; has = record { at = j; below = omega arith; inside = k .1 } }
 
-    side : (v i : ℕ) → Agrees lo hi v → In (boxOf S i) v → (i ≡ j) ⊎ (i < j) → ChosenOf (Shifted S j) lo hi v ⊎ In (met (boxOf S j) lo hi) v
+    side : (v i : ℕ) → Agrees lo hi v → In (boxOf S i) v → (i ≡ j) ⊎ (i < j) → ChosenOf (Several S j) lo hi v ⊎ In (met (boxOf S j) lo hi) v
     side v i g m (inl e) = inr (met-back (boxOf S j) lo hi v g (rw e at m))
     side v i g m (inr l) = inl (record { agrees = g; has = record { at = i; below = l; inside = m } })
 
-    back : (v : ℕ) → ChosenOf (Shifted S (j + 1)) lo hi v → ChosenOf (Shifted S j) lo hi v ⊎ In (met (boxOf S j) lo hi) v
+    back : (v : ℕ) → ChosenOf (Several S (j + 1)) lo hi v → ChosenOf (Several S j) lo hi v ⊎ In (met (boxOf S j) lo hi) v
     back v m = side v (m .has .at) (m .agrees) (m .has .inside) (eq-or-lt-of-le (let h = m .has .below in omega arith))
 
 -- what the boxes that code takes apart are
-pub left-short : (S : Shifts) (t w n j : ℕ) → S ≡ Left t w → FineOf (Shifted S n) → j < n → (j < w) × (w ≤ 64) × (t / 2 ^ j < 2 ^ (w - j))
+pub left-short : (S : Row) (t w n j : ℕ) → S ≡ Left t w → FineOf (Several S n) → j < n → (j < w) × (w ≤ 64) × (t / 2 ^ j < 2 ^ (w - j))
 left-short S t w n j e f b =
     let a : (n ≤ w) × (w ≤ 64) × (t < 2 ^ w) = rw e at f in
     let k : w - j + j ≡ w = omega arith in
     (omega arith, a .1, shr-lt (w - j) j (subst (λ (i : ℕ). t < 2 ^ i) (sym k) (a .2)))
 
-pub right-fits : (S : Shifts) (t n j : ℕ) → S ≡ Right t → FineOf (Shifted S n) → j < n → (j < 64) × (t * 2 ^ j + 2 ^ j ≤ 2 ^ 64)
+pub right-fits : (S : Row) (t n j : ℕ) → S ≡ Right t → FineOf (Several S n) → j < n → (j < 64) × (t * 2 ^ j + 2 ^ j ≤ 2 ^ 64)
 right-fits S t n j e f b =
     let a : (n ≤ 64) × ((j : ℕ) → j < n → t * 2 ^ j + 2 ^ j ≤ 2 ^ 64) = rw e at f in
     (omega arith, a .1 j b)
+
+pub mirrored-fits : (S : Row) (u w n j : ℕ) → S ≡ Mirrored u w → FineOf (Several S n) → j < n → (1 ≤ w) × (w ≤ 64) × (j < 64) × (u * 2 ^ j + 2 ^ j ≤ 2 ^ w)
+mirrored-fits S u w n j e f b =
+    let a : (1 ≤ w) × (w ≤ 64) × (n ≤ w) × ((j : ℕ) → j < n → u * 2 ^ j + 2 ^ j ≤ 2 ^ w) = rw e at f in
+    (a .0, a .1, omega arith, a .3 j b)

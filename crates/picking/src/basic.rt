@@ -3,8 +3,10 @@ use crate::boxes::Set;
 use crate::boxes::between;
 use crate::boxes::low_are;
 use crate::boxes::ternary;
+use crate::unions::Row;
 use crate::unions::Union;
 ghost use mathlib.Core.Path.{_≡_};
+ghost use mathlib.Core.Logic.{_⊎_};
 ghost use Prim.Native.Nat.{_%_, _^_, _≤_, _<_};
 ghost use Rattle.words.specs.Agree.{Agrees};
 ghost use Rattle.picking.specs.inner.Boxes.{Solves, Every};
@@ -72,6 +74,13 @@ pub(crate) fn apart(s: u64) -> Set
     ensures { λ r. ⌜ Solves 64 (λ v. v ≡ s → ⊥) r ⌝ }
 {
     Set::Many(Union::Except(s))
+}
+
+// The values up to a, and those from b on.
+pub(crate) fn ends(a: u64, b: u64) -> Set
+    ensures { λ r. ⌜ Solves 64 (λ v. (v ≤ a) ⊎ (b ≤ v)) r ⌝ }
+{
+    Set::Many(Union::Several(Row::Ends(a, b), 2))
 }
 
 // The values that agree with lo, hi.

@@ -7,7 +7,7 @@ ghost use mathlib.Core.Path.{_≡_};
 ghost use Prim.Native.Nat.{ℕ, _+_, _-_, _*_, _^_, _≤_, _<_};
 ghost use Rattle.words.specs.Agree.{Within};
 ghost use Rattle.words.specs.Pick.{FirstFrom, Picked};
-ghost use Rattle.picking.specs.inner.Boxes.{In, Fine, span, word, lowAre, met, Chosen};
+ghost use Rattle.picking.specs.inner.Boxes.{In, Fine, span, word, lowAre, shiftedTo, mirrored, Bounded, endAt, met, Chosen};
 
 // A ternary word met with an interval: the values that agree with lo, hi and lie in least..=most.
 pub(crate) struct Box {
@@ -61,10 +61,34 @@ pub(crate) fn low_are(n: u32, c: u64) -> Box
 // The values that a right shift by j takes to t.
 pub(crate) fn shifted(t: u64, j: u32) -> Box
     requires { ⌜ (j < 64) × (t * 2 ^ j + 2 ^ j ≤ 2 ^ 64) ⌝ }
-    ensures { λ r. ⌜ r ≡ span (t * 2 ^ j) (t * 2 ^ j + (2 ^ j - 1)) ⌝ }
+    ensures { λ r. ⌜ r ≡ shiftedTo t j ⌝ }
 {
     let a = t << j;
     between(a, a + ((1u64 << j) - 1))
+}
+
+// The complements, of w bits, of the values of a box.
+pub(crate) fn mirror(b: Box, w: u32) -> Box
+    requires { ⌜ (1 ≤ w) × (w ≤ 64) × Bounded w b ⌝ }
+    ensures { λ r. ⌜ r ≡ mirrored w b ⌝ }
+{
+    let top = words::to_width(b.hi, w);
+    Box {
+        lo: operators::flip(top, w),
+        hi: operators::flip(b.lo, w),
+        least: operators::flip(b.most, w),
+        most: operators::flip(b.least, w),
+    }
+}
+
+// Up to a, and from b on.
+pub(crate) fn end_at(a: u64, b: u64, j: u32) -> Box
+    ensures { λ r. ⌜ r ≡ endAt a b j ⌝ }
+{
+    if j == 0 {
+        return between(0, a);
+    }
+    between(b, u64::MAX)
 }
 
 // A box met with a pair: the values of the box that agree with lo, hi.

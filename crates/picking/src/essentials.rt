@@ -6,28 +6,30 @@ use crate::spot::at;
 use crate::spot::marks;
 use words::Found;
 ghost use mathlib.Core.Path.{_≡_};
-ghost use mathlib.Core.Logic.{_⊎_};
 ghost use Prim.Native.Nat.{_^_, _≤_, _<_};
 ghost use Rattle.words.specs.inner.Decides.{Decides};
 ghost use Rattle.picking.specs.Spot.{positions, value, Fair, Essential, Asked};
-ghost use Rattle.picking.specs.inner.Asks.{Had};
+ghost use Rattle.picking.specs.inner.Asks.{Alone, Had};
 ghost use Rattle.picking.specs.inner.Marks.{Marks};
 
-// What a not or an extract gives on its current value.
+// What a kind of one position gives on its current value.
 fn value_now(s: Spot) -> u64
-    requires { ⌜ Fair s × ((s .kind ≡ 2) ⊎ (s .kind ≡ 13)) ⌝ }
+    requires { ⌜ Fair s × Alone (s .kind) ⌝ }
     ensures { λ r. ⌜ r ≡ value s (s .current) ⌝ }
 {
     let now = s.current;
     if s.kind == 2 {
         return operators::flip(now.a, s.width);
     }
-    operators::part(now.a, s.low, s.width)
+    if s.kind == 13 {
+        return operators::part(now.a, s.low, s.width);
+    }
+    operators::extend(now.a, s.widths.a as u32, s.width)
 }
 
-// The one position of not and extract is essential exactly if its current value does not give t.
+// The one position of not, extract and sign extension is essential exactly if its current value does not give t.
 fn essential_alone(s: Spot, t: u64) -> bool
-    requires { ⌜ Fair s × ((s .kind ≡ 2) ⊎ (s .kind ≡ 13)) ⌝ }
+    requires { ⌜ Fair s × Alone (s .kind) ⌝ }
     ensures { λ r. ⌜ Decides (Essential s t 0) r ⌝ }
 {
     value_now(s) != t
@@ -101,9 +103,10 @@ pub fn essential(s: Spot, i: u32, t: u64) -> bool
 {
     let kind = s.kind;
     match kind {
-        2 | 13 => essential_alone(s, t),
+        2 | 13 | 16 => essential_alone(s, t),
         11 => essential_of_if(s, i, t),
-        _ => essential_of_two(s, i, t),
+        3..=10 | 12 | 14..=15 => essential_of_two(s, i, t),
+        0..=1 | 17..=255 => false,
     }
 }
 
@@ -114,12 +117,13 @@ pub fn essential_positions(s: Spot, t: u64) -> u32
 {
     let kind = s.kind;
     match kind {
-        2 | 13 => marks(essential_alone(s, t), false, false),
+        2 | 13 | 16 => marks(essential_alone(s, t), false, false),
         11 => marks(
             essential_condition(s, t),
             essential_branch(s, 1, t),
             essential_branch(s, 2, t),
         ),
-        _ => marks(essential_of_two(s, 0, t), essential_of_two(s, 1, t), false),
+        3..=10 | 12 | 14..=15 => marks(essential_of_two(s, 0, t), essential_of_two(s, 1, t), false),
+        0..=1 | 17..=255 => 0,
     }
 }

@@ -10,6 +10,7 @@ mod joining;
 mod picks;
 mod sets;
 mod shifts;
+mod signed;
 mod spot;
 mod unions;
 

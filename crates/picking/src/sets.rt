@@ -7,6 +7,7 @@ use crate::choice;
 use crate::comparisons;
 use crate::joining;
 use crate::shifts;
+use crate::signed;
 use crate::spot::Spot;
 use crate::spot::other;
 ghost use mathlib.Core.Path.{_≡_};
@@ -34,7 +35,11 @@ pub(crate) fn inverse_set(s: Spot, i: u32, t: u64) -> Set
         10 => comparisons::inverse_below(i, y, t),
         11 => choice::inverse_if(i, now, t),
         12 => joining::inverse_concat(i, s.widths.a as u32, s.widths.b as u32, y, t),
-        _ => joining::inverse_extract(w, s.low, t),
+        13 => joining::inverse_extract(w, s.low, t),
+        14 => signed::inverse_slt(i, s.widths.a as u32, y, t),
+        15 => signed::inverse_ashr(i, w, y, t),
+        16 => signed::inverse_sext(s.widths.a as u32, w, t),
+        0..=1 | 17..=255 => Set::Empty,
     }
 }
 
@@ -55,6 +60,10 @@ pub(crate) fn consistent_set(s: Spot, i: u32, t: u64) -> Set
         10 => comparisons::consistent_below(i, s.widths.a as u32, t),
         12 => joining::consistent_concat(i, s.widths.a as u32, s.widths.b as u32, t),
         13 => joining::inverse_extract(w, s.low, t),
-        _ => basic::all(),
+        14 => signed::consistent_slt(i, s.widths.a as u32, t),
+        15 => signed::consistent_ashr(i, w, t),
+        16 => signed::inverse_sext(s.widths.a as u32, w, t),
+        4..=5 | 9 | 11 => basic::all(),
+        0..=1 | 17..=255 => Set::Empty,
     }
 }

@@ -2,7 +2,7 @@
 use crate::basic;
 use crate::boxes::Set;
 use crate::boxes::shifted;
-use crate::unions::Shifts;
+use crate::unions::Row;
 use crate::unions::Union;
 ghost use mathlib.Core.Path.{_≡_};
 ghost use Prim.Native.Nat.{_*_, _/_, _%_, _^_, _<_};
@@ -66,7 +66,7 @@ pub(crate) fn consistent_shl(i: u32, w: u32, t: u64) -> Set
     }
     let n = words::low_bit(t);
     if i == 0 {
-        return Set::Many(Union::Shifted(Shifts::Left(t, w), n + 1));
+        return Set::Many(Union::Several(Row::Left(t, w), n + 1));
     }
     basic::range(0, n as u64)
 }
@@ -88,7 +88,7 @@ fn inverse_lshr_operand(s: u64, t: u64) -> Set
 }
 
 // For t = 0 all of x's bits are to go; for another t the amount is what x's highest bit is above t's.
-fn inverse_lshr_amount(x: u64, t: u64) -> Set
+pub(crate) fn inverse_lshr_amount(x: u64, t: u64) -> Set
     ensures { λ r. ⌜ Solves 64 (λ v. x / 2 ^ v ≡ t) r ⌝ }
 {
     if x == 0 {
@@ -126,7 +126,7 @@ pub(crate) fn consistent_lshr(i: u32, w: u32, t: u64) -> Set
     }
     let n = w - words::top_bit(t);
     if i == 0 {
-        return Set::Many(Union::Shifted(Shifts::Right(t), n));
+        return Set::Many(Union::Several(Row::Right(t), n));
     }
     basic::range(0, (n - 1) as u64)
 }

@@ -1,8 +1,10 @@
 // Sets of words that are no single box, and the search in one.
 use crate::boxes::Box;
+use crate::boxes::end_at;
 use crate::boxes::first_in_box;
 use crate::boxes::low_are;
 use crate::boxes::meet;
+use crate::boxes::mirror;
 use crate::boxes::shifted;
 use words::Found;
 ghost use mathlib.Core.Path.{_≡_};
@@ -11,10 +13,15 @@ ghost use Rattle.words.specs.Agree.{Agrees, Within};
 ghost use Rattle.words.specs.Pick.{FirstFrom, Picked};
 ghost use Rattle.picking.specs.inner.Boxes.{boxOf, FineOf, ChosenOf};
 
-// The words that are to be shifted to t: to the left, modulo 2^w (t, w), or to the right (t).
-pub(crate) enum Shifts {
+// Rows of boxes, by their place j.
+pub(crate) enum Row {
+    // What a shift by j takes to t: to the left, modulo 2^w (t, w), or to the right (t).
     Left(u64, u32),
     Right(u64),
+    // The complements, of w bits, of what a shift to the right by j takes to u (u, w).
+    Mirrored(u64, u32),
+    // Up to a, and from b on (a, b).
+    Ends(u64, u64),
 }
 
 pub(crate) enum Union {
@@ -22,25 +29,27 @@ pub(crate) enum Union {
     Except(u64),
     // Some of the m low bits set.
     Low(u32),
-    // What shifts by 0 to n - 1 take to their target, which has room for them.
-    Shifted(Shifts, u32),
+    // The first n boxes of a row that has room for them.
+    Several(Row, u32),
 }
 
-// What a shift by j takes to the target.
-fn box_of(by: Shifts, n: u32, j: u32) -> Box
-    requires { ⌜ FineOf (Union.Shifted by n) × (j < n) ⌝ }
+// The box at place j.
+fn box_of(by: Row, n: u32, j: u32) -> Box
+    requires { ⌜ FineOf (Union.Several by n) × (j < n) ⌝ }
     ensures { λ r. ⌜ r ≡ boxOf by j ⌝ }
 {
     match by {
-        Shifts::Left(t, w) => low_are(w - j, t >> j),
-        Shifts::Right(t) => shifted(t, j),
+        Row::Left(t, w) => low_are(w - j, t >> j),
+        Row::Right(t) => shifted(t, j),
+        Row::Mirrored(u, w) => mirror(shifted(u, j), w),
+        Row::Ends(a, b) => end_at(a, b, j),
     }
 }
 
-// The least value from p on that agrees with lo, hi and is shifted to the target: box by box, with the least so far.
-fn first_shifted(by: Shifts, n: u32, lo: u64, hi: u64, p: u64) -> Found
-    requires { ⌜ FineOf (Union.Shifted by n) ⌝ }
-    ensures { λ r. ⌜ FirstFrom (ChosenOf (Union.Shifted by n) lo hi) p r ⌝ }
+// The least value from p on that agrees with lo, hi and is in one of the boxes: box by box, with the least so far.
+fn first_several(by: Row, n: u32, lo: u64, hi: u64, p: u64) -> Found
+    requires { ⌜ FineOf (Union.Several by n) ⌝ }
+    ensures { λ r. ⌜ FirstFrom (ChosenOf (Union.Several by n) lo hi) p r ⌝ }
 {
     let mut best = Found::Nothing;
     let mut j = 0u32;
@@ -101,7 +110,7 @@ fn first_in(set: Union, lo: u64, hi: u64, p: u64) -> Found
     match set {
         Union::Except(s) => first_except(s, lo, hi, p),
         Union::Low(m) => first_low(m, lo, hi, p),
-        Union::Shifted(by, n) => first_shifted(by, n, lo, hi, p),
+        Union::Several(by, n) => first_several(by, n, lo, hi, p),
     }
 }
 

@@ -53,8 +53,8 @@ markWrong s = not (eqb (getD s 0 0) 84) || not (eqb (getD s 1 0) 66) || not (eqb
 unfoldable pub operandAbove : Node → ℕ → ℕ → Bool
 operandAbove n operands i = ltb 0 operands && leb i (n .a) || ltb 1 operands && leb i (n .b) || ltb 2 operands && leb i (n .c)
 
--- 10 "a field that the kind does not use is not zero, or lo or hi is not zero in kinds 2 to 13", of a node that uses so
--- many of the fields a, b, c
+-- 10 "a field that the kind does not use is not zero, or lo or hi is not zero in kinds 2 to 13" (with 02: in every
+-- kind from 2 on), of a node that uses so many of the fields a, b, c
 unfoldable pub strayField : Node → ℕ → Bool
 strayField n fields =
     leb fields 0 && not (eqb (n .a) 0)

@@ -62,7 +62,7 @@ fn operand_above(n: Node, operands: u8, id: u16) -> bool
     ((0 < operands) & (id <= n.a)) | ((1 < operands) & (id <= n.b)) | ((2 < operands) & (id <= n.c))
 }
 
-// 10: a field that the kind does not use is not zero, or lo or hi is not zero in kinds 2 to 13.
+// 10: a field that the kind does not use is not zero, or lo or hi is not zero in a kind from 2 on.
 fn stray_field(n: Node, fields: u8) -> bool
     ensures { λ r. ⌜ r ≡ strayField n fields ⌝ }
 {

@@ -64,6 +64,9 @@ fn every_kind() -> Problem {
         inner(11, 4, 0, 1, 2),
         inner(12, 5, 1, 0, 0),
         inner(13, 3, 1, 1, 0),
+        inner(14, 1, 1, 2, 0),
+        inner(15, 4, 1, 2, 0),
+        inner(16, 8, 1, 0, 0),
     ];
     Problem::new(nodes, vec![10, 11])
 }
@@ -138,7 +141,7 @@ fn headers() {
 
 #[test]
 fn kinds_widths_operands() {
-    refused("the first number that is no kind", &with(6, inner(14, 4, 1, 2, 0)), 7, 6);
+    refused("the first number that is no kind", &with(6, inner(17, 4, 1, 2, 0)), 7, 6);
     refused("kind 255", &with(14, inner(255, 4, 0, 0, 0)), 7, 14);
     refused("and of width 0", &with(4, inner(3, 0, 1, 2, 0)), 8, 4);
     refused("add of width 65", &with(6, inner(5, 65, 1, 2, 0)), 8, 6);
@@ -146,6 +149,8 @@ fn kinds_widths_operands() {
     refused("xor of 1 and itself", &with(5, inner(4, 4, 1, 5, 0)), 9, 5);
     refused("if whose c is above it", &with(12, inner(11, 4, 0, 1, 13)), 9, 12);
     refused("extract whose b is no operand", &with(14, inner(13, 3, 1, 15, 0)), 11, 14);
+    refused("signed below of 1 and itself", &with(15, inner(14, 1, 1, 15, 0)), 9, 15);
+    refused("sign extension of itself", &with(17, inner(16, 8, 17, 0, 0)), 9, 17);
 }
 
 #[test]
@@ -155,8 +160,11 @@ fn unused_fields() {
     refused("not with field b", &with(3, inner(2, 4, 1, 1, 0)), 10, 3);
     refused("concat with field c", &with(13, inner(12, 5, 1, 0, 1)), 10, 13);
     refused("extract with field c", &with(14, inner(13, 3, 1, 1, 1)), 10, 14);
+    refused("arithmetic shift with field c", &with(16, inner(15, 4, 1, 2, 1)), 10, 16);
+    refused("sign extension with field b", &with(17, inner(16, 8, 1, 1, 0)), 10, 17);
     refused("add with lo", &with(6, Node(5, 4, [1, 2, 0], 1, 0)), 10, 6);
     refused("mul with hi", &with(7, Node(6, 4, [1, 2, 0], 0, 1)), 10, 7);
+    refused("sign extension with hi", &with(17, Node(16, 8, [1, 0, 0], 0, 1)), 10, 17);
 }
 
 #[test]
@@ -171,6 +179,10 @@ fn width_rules() {
     refused("concat of 4 bits and 1 bit to 6", &with(13, inner(12, 6, 1, 0, 0)), 11, 13);
     refused("extract of 3 bits from bit 2 of 4", &with(14, inner(13, 3, 1, 2, 0)), 11, 14);
     accepted("extract of 2 bits from bit 2 of 4", &with(14, inner(13, 2, 1, 2, 0)));
+    refused("signed below of 4 bits and 1 bit", &with(15, inner(14, 1, 1, 0, 0)), 11, 15);
+    refused("arithmetic shift whose b has 1 bit", &with(16, inner(15, 4, 1, 0, 0)), 11, 16);
+    refused("sign extension to the same width", &with(17, inner(16, 4, 1, 0, 0)), 11, 17);
+    accepted("sign extension by 1 bit", &with(17, inner(16, 5, 1, 0, 0)));
 }
 
 #[test]

@@ -8,7 +8,7 @@ use native.Mathlib.Decide.{decLt}
 use lib.Dec.{ltb, leb, leb→le}
 use lib.ListN.{length, getD}
 use borrow.Author.Tests.{ltb-true}
-use Rattle.operators.specs.Table.{kinds, kindOf, shape, shapeOf}
+use Rattle.operators.specs.Table.{kindCount, kinds, kindOf, shape, shapeOf}
 use Rattle.operators.specs.Meaning.{meaning}
 use Rattle.operators.specs.laws.Meaning.{fit-used, meaning-known}
 use Rattle.operators.specs.Fixed.{pair}
@@ -70,6 +70,11 @@ module _ (s vs : List ℕ) (i : ℕ) where
         | yes h ↦ omega (arith, f .a-below h, v .inside)
         | no x ↦ omega (arith, f .a-unused (omega arith), v .inside)
       ]
+
+  -- its kind is one of the table
+  pub kind-there : Evaluable s vs i → nodeAt s i .kind < kindCount
+  unfolding problem
+  kind-there v = accepted-facts s (v .accepted) .node i (v .inside) .kind-known
 
   -- its operator can be put to work
   pub standing : Evaluable s vs i → 2 ≤ nodeAt s i .kind → Standing (standingOp s (nodeAt s i)) vs (nodeAt s i .a) (nodeAt s i .b) (nodeAt s i .c)

@@ -2,7 +2,7 @@
 use mathlib.Core.Path.{_≡_, refl, sym, ap, ap₂, _∙_}
 use mathlib.Core.Bool.{Bool, true, false}
 use Prim.Native.Nat.{ℕ, zero, suc, _+_, _*_, _/_, _^_, _≤_, _<_}
-use native.Mathlib.Nat.{mod-lt, lt-of-le-of-lt}
+use native.Mathlib.Nat.{le-of-lt, mod-lt, lt-of-le-of-lt}
 use native.Mathlib.Omega.{arith}
 use lib.Arith.{digits-lt}
 use lib.Bits.{and-lt, xor-lt}
@@ -10,9 +10,10 @@ use lib.Dec.{eqb, ltb, leb}
 use lib.Pow.{pow-pos, pow-mono, pow-add, ones-sub-lt, shr-le}
 use borrow.Author.Tests.{leb-true}
 use Rattle.operators.specs.declared.table.Rule.{Rule}
-use Rattle.operators.specs.declared.table.Rule.the-variants.{Free, One, Both, Equal, Choice, Sum, Part}
-use Rattle.operators.specs.Table.{Kind, variable, constant, inv, conj, xor, add, mul, shl, lshr, eq, below, ite, concat, extract, shape, RuleMet}
-use Rattle.operators.specs.Meaning.{flag, choose, meaning, Fit}
+use Rattle.operators.specs.declared.table.Rule.the-variants.{Free, One, Both, Equal, Choice, Sum, Part, Longer}
+use Rattle.operators.specs.Table.{Kind, variable, constant, inv, conj, xor, add, mul, shl, lshr, eq, below, ite, concat, extract, slt, ashr, sext, shape, RuleMet}
+use Rattle.operators.specs.Meaning.{flag, choose, signedLess, meaning, Fit}
+use Rattle.operators.specs.laws.Signed.{ashr-lt, extended-lt}
 use Rattle.operators.specs.inner.Ready.{Used}
 
 -- ---- the value of a node is of the node's width
@@ -44,6 +45,9 @@ meaning-lt below w wa wb low x y z h f = flag-lt (ltb x y) w h
 meaning-lt ite w wa wb low x y z h f = choose-lt x y z (2 ^ w) (f .1) (f .2)
 meaning-lt concat w wa wb low x y z h f = joined-lt w wa wb x y (f .0) (f .2) (f .3)
 meaning-lt extract w wa wb low x y z h f = mod-lt (x / 2 ^ low) (pow-pos w)
+meaning-lt slt w wa wb low x y z h f = flag-lt (signedLess wa x y) w h
+meaning-lt ashr w wa wb low x y z h f = ashr-lt w x y (f .0)
+meaning-lt sext w wa wb low x y z h f = extended-lt wa w (f .0) (le-of-lt (f .1)) (f .2)
 
 -- ---- the width rule, and operands of their nodes' widths, make a fit
 
@@ -56,6 +60,7 @@ takes Equal = 2
 takes Choice = 3
 takes Sum = 2
 takes Part = 1
+takes Longer = 1
 
 pub takes-is : (o : Kind) → takes (shape o .rule) ≡ shape o .operands
 takes-is variable = refl
@@ -72,6 +77,9 @@ takes-is below = refl
 takes-is ite = refl
 takes-is concat = refl
 takes-is extract = refl
+takes-is slt = refl
+takes-is ashr = refl
+takes-is sext = refl
 
 -- a number below 2 ^ n, where n is m
 sized : {m n x : ℕ} → n ≡ m → x < 2 ^ n → x < 2 ^ m
@@ -82,10 +90,11 @@ fit-rule : (r : Rule) (w wa wb wc low x y z : ℕ) → RuleMet r w wa wb wc low 
 fit-rule Free w wa wb wc low x y z m h u = tt
 fit-rule One w wa wb wc low x y z m h u = sized m (u .a (omega arith))
 fit-rule Both w wa wb wc low x y z m h u = (sized (m .0) (u .a (omega arith)), sized (m .1) (u .b (omega arith)))
-fit-rule Equal w wa wb wc low x y z m h u = tt
+fit-rule Equal w wa wb wc low x y z m h u = (h (omega arith) .0, h (omega arith) .1, u .a (omega arith), sized (sym (m .0)) (u .b (omega arith)))
 fit-rule Choice w wa wb wc low x y z m h u = (sized (m .0) (u .a (omega arith)), sized (m .1) (u .b (omega arith)), sized (m .2) (u .c (omega arith)))
 fit-rule Sum w wa wb wc low x y z m h u = (m, h (omega arith) .0, u .a (omega arith), u .b (omega arith))
 fit-rule Part w wa wb wc low x y z m h u = (m, h (omega arith) .1, u .a (omega arith))
+fit-rule Longer w wa wb wc low x y z m h u = (h (omega arith) .0, m, u .a (omega arith))
 
 -- for operands that the kind has; nothing is asked of the other positions
 pub fit-used : (o : Kind) (w wa wb wc low x y z : ℕ) → RuleMet (shape o .rule) w wa wb wc low → (1 ≤ shape o .operands → (1 ≤ wa) × (wa ≤ 64))
@@ -125,6 +134,9 @@ module _ (w wa wb low x y z : ℕ) where
   trimmed ite = refl
   trimmed concat = refl
   trimmed extract = refl
+  trimmed slt = refl
+  trimmed ashr = refl
+  trimmed sext = refl
 
 -- their widths and values alone
 pub meaning-known : (o : Kind) (w wa wb low x y z wa′ wb′ x′ y′ z′ : ℕ)

@@ -2,27 +2,33 @@
 -- values agree with their pairs, the operator's value agrees with the pair worked out for it. And that pair is a ternary word of the node's width.
 use mathlib.Core.Path.{_≡_, refl, sym, ap, ap₂, _∙_}
 use mathlib.Core.Bool.{Bool, true, false}
-use mathlib.Core.Logic.{⊎-elim}
+use mathlib.Core.Logic.{_⊎_, inl, inr, ⊎-elim}
 use Prim.Native.Nat.{ℕ, zero, suc, _+_, _-_, _*_, _/_, _%_, _^_, _≤_, _<_, min, max, zero-le}
-use native.Mathlib.Nat.{le-refl, lt-of-le-of-lt, mod-lt, add-mod}
+use native.Mathlib.Nat.{le-refl, le-trans, le-of-lt, lt-of-lt-of-le, lt-of-le-of-lt, not-le-of-lt, mod-lt, add-mod, mul-le-mul-right, div-eq-of-lt, zero-mul, one-mul}
 use native.Mathlib.Omega.{arith}
 use lib.Bits.{bitAnd, bitOr, bitXor, and-lt, or-lt, xor-lt, xor-self}
 use lib.Count.{trailing-le}
 use lib.Dec.{eqb, leb, ltb}
-use lib.Pow.{pow-pos, pow-mono, high-ones, ones-lt, ones-sub-lt, shr-le}
-use borrow.Author.Tests.{ltb-true, leb-true, eqb-true, lt-ltb, le-ltb, ne-eqb, eq-eqb}
+use lib.Pow.{pow-pos, pow-mono, split, high-ones, ones-lt, ones-sub-lt, shr-le}
+use borrow.Author.Tests.{ltb-true, ltb-false, leb-true, eqb-true, lt-ltb, le-ltb, ne-eqb, eq-eqb}
 use Rattle.words.specs.Agree.{Within}
-use Rattle.words.specs.laws.Agree.{agrees-of-within, lo-within, within-hi, within-le, within-refl, within-trans, within-antisym, within-zero, within-ones, within-div, within-mod, within-over, within-shl, within-and-both, within-not, agrees-lt}
+use Rattle.words.specs.laws.Agree.{within-of-bits, bits-of-within, agrees-of-within, lo-within, within-hi, within-le, within-refl, within-trans, within-antisym, within-zero, within-ones, within-div, within-mod, within-over, within-shl, within-and-both, within-not, agrees-lt}
 use Rattle.words.specs.Bits.{bit}
-use Rattle.words.specs.laws.Bits.{bit-lt, bit-and, bit-or, bit-xor, bit-high, bit-cut, bit-cut-high, bit-over-low, bit-over-high, ones-bit, same-low, split-at, lt-or-ge, xor-none}
+use Rattle.words.specs.laws.Bits.{bit-lt, bit-and, bit-or, bit-xor, bit-not, bit-shr, bit-high, bit-cut, bit-cut-high, bit-over-low, bit-over-high, ones-bit, same-low, split-at, lt-or-ge, xor-none}
 use Rattle.words.specs.laws.Modular.{cut-cut, mul-cuts}
+use Rattle.words.specs.laws.Narrow.{over-div, over-mod, over-lt}
 use Rattle.words.specs.laws.Zeros.{trailing-bit}
 use Rattle.operators.specs.declared.fixed.Pair.{Pair}
-use Rattle.operators.specs.Table.{Kind, variable, constant, inv, conj, xor, add, mul, shl, lshr, eq, below, ite, concat, extract, shape}
-use Rattle.operators.specs.Meaning.{flag, choose, meaning, Fit}
+use Rattle.operators.specs.Table.{Kind, variable, constant, inv, conj, xor, add, mul, shl, lshr, eq, below, ite, concat, extract, slt, ashr, sext, shape}
+use Rattle.operators.specs.Meaning.{flag, choose, sign, signedLess, signedShift, extended, meaning, Fit}
 use Rattle.operators.specs.laws.Meaning.{joined-lt}
-use Rattle.operators.specs.Fixed.{pair, either, branch, freeOf, fixed, anyOf, known, lowest, upTo, apart, told, pairOf}
+use Rattle.operators.specs.laws.Signed.{halves, top-one, turned, Low, High, low-or-high, signed-order, ashr-low, ashr-high, some-bit, ashr-lt, extended-lt}
+use Rattle.operators.specs.Fixed.{pair, either, branch, freeOf, fixed, anyOf, known, lowest, upTo, apart, told, signOver, signedLeast, signedMost, sltPair, ashrPair, sextPair, pairOf}
 use Rattle.operators.specs.inner.Ready.{Used, Ordered, Ternary, Agreeing}
+
+-- lo is no greater than hi, so what bounds hi bounds lo
+pub lo-lt : {p : Pair} {m : ℕ} → Ordered p → p .hi < m → p .lo < m
+lo-lt o h = lt-of-le-of-lt (within-le o) h
 
 -- ---- everything fixed, and nothing
 
@@ -175,6 +181,116 @@ agrees-alike c q r y z b d = record {
     one-of zero P f g = g
     one-of (suc n) P f g = f
 
+-- ---- signed below
+
+-- a word turned over, by its sign and its other bits
+turned-parts : (w y : ℕ) → 1 ≤ w → y < 2 ^ w → turned w y + y / 2 ^ (w - 1) * 2 ^ (w - 1) ≡ y % 2 ^ (w - 1) + 2 ^ (w - 1)
+turned-parts w y h l =
+    let e = halves w h in
+    let p = split y (w - 1) in
+    ⊎-elim (λ (a : Low w y). let q : y / 2 ^ (w - 1) * 2 ^ (w - 1) ≡ 0 = ap (λ (n : ℕ). n * 2 ^ (w - 1)) (div-eq-of-lt (a .small)) ∙ zero-mul (2 ^ (w - 1)) in omega arith)
+    (λ (a : High w y). let q : y / 2 ^ (w - 1) * 2 ^ (w - 1) ≡ 2 ^ (w - 1) = ap (λ (n : ℕ). n * 2 ^ (w - 1)) (top-one w h (a .large) l) ∙ one-mul (2 ^ (w - 1)) in omega arith)
+    (low-or-high w h l)
+
+-- the order by signs and other bits
+turned-mono : (w x y : ℕ) → 1 ≤ w → x < 2 ^ w → y < 2 ^ w → y / 2 ^ (w - 1) ≤ x / 2 ^ (w - 1) → x % 2 ^ (w - 1) ≤ y % 2 ^ (w - 1) → turned w x ≤ turned w y
+turned-mono w x y h hx hy s l = omega (arith, turned-parts w x h hx, turned-parts w y h hy, mul-le-mul-right (2 ^ (w - 1)) s)
+
+low-lt : (w c : ℕ) → c % 2 ^ (w - 1) < 2 ^ (w - 1)
+low-lt w c = mod-lt c (pow-pos (w - 1))
+
+pub sign-over-lt : (w a b : ℕ) → 1 ≤ w → a < 2 ^ w → signOver w a b < 2 ^ w
+sign-over-lt w a b h l = over-lt w (w - 1) a (b % 2 ^ (w - 1)) (omega arith) l (low-lt w b)
+
+module _ (w : ℕ) (p : Pair) (some : 1 ≤ w) (short : p .hi < 2 ^ w) where
+  pub least-lt : signedLeast w p < 2 ^ w
+  least-lt = sign-over-lt w (p .hi) (p .lo) some short
+
+  pub most-lt : Ordered p → signedMost w p < 2 ^ w
+  most-lt o = sign-over-lt w (p .lo) (p .hi) some (lo-lt o short)
+
+  module _ (x : ℕ) (a : Agreeing p x) where
+    hx : x < 2 ^ w
+    hx = agrees-lt w short a
+
+    pub from-least : turned w (signedLeast w p) ≤ turned w x
+    from-least =
+        turned-mono w (signedLeast w p) x some least-lt hx
+        (rw (over-div (w - 1) (p .hi) (p .lo % 2 ^ (w - 1)) (low-lt w (p .lo))) (within-le (within-div (w - 1) (within-hi a))))
+        (rw (over-mod (w - 1) (p .hi) (p .lo % 2 ^ (w - 1)) (low-lt w (p .lo))) (within-le (within-mod (w - 1) (lo-within a))))
+
+    pub upto-most : Ordered p → turned w x ≤ turned w (signedMost w p)
+    upto-most o =
+        turned-mono w x (signedMost w p) some hx (most-lt o)
+        (rw (over-div (w - 1) (p .lo) (p .hi % 2 ^ (w - 1)) (low-lt w (p .hi))) (within-le (within-div (w - 1) (lo-within a))))
+        (rw (over-mod (w - 1) (p .lo) (p .hi % 2 ^ (w - 1)) (low-lt w (p .hi))) (within-le (within-mod (w - 1) (within-hi a))))
+
+pub agrees-slt : (w : ℕ) (p q : Pair) (x y : ℕ) → 1 ≤ w → p .hi < 2 ^ w → q .hi < 2 ^ w → Ordered p → Ordered q → Agreeing p x → Agreeing q y
+    → Agreeing (sltPair w p q) (flag (signedLess w x y))
+agrees-slt w p q x y h hp hq o n a b =
+    agrees-either (signedLess w (signedMost w p) (signedLeast w q)) (pair 1 1) (either (signedLess w (signedLeast w p) (signedMost w q)) (pair 0 1) (pair 0 0)) (flag (signedLess w x y))
+    (λ t. let l = ltb-true _ _ (sym (signed-order w (signedMost w p) (signedLeast w q) h (most-lt w p h hp o) (least-lt w q h hq)) ∙ t) in
+    rw (is (lt-ltb _ _ (lt-of-le-of-lt (upto-most w p h hp x a o) (lt-of-lt-of-le l (from-least w q h hq y b))))) (agrees-self 1))
+    (λ t. agrees-either (signedLess w (signedLeast w p) (signedMost w q)) (pair 0 1) (pair 0 0) (flag (signedLess w x y)) (λ u. agrees-flag (signedLess w x y))
+    (λ u. let l = ltb-false _ _ (sym (signed-order w (signedLeast w p) (signedMost w q) h (least-lt w p h hp) (most-lt w q h hq n)) ∙ u) in
+    rw (is (le-ltb _ _ (le-trans (upto-most w q h hq y b n) (le-trans l (from-least w p h hp x a))))) (agrees-self 0)))
+  where
+    is : {t : Bool} → ltb (turned w x) (turned w y) ≡ t → signedLess w x y ≡ t
+    is e = signed-order w x y h (agrees-lt w hp a) (agrees-lt w hq b) ∙ e
+
+-- ---- arithmetic shifts, which keep the order of words as sets of bits
+
+module _ (w s : ℕ) where
+  -- what is filled is at least what lshr fills
+  filled : {a : ℕ} → a < 2 ^ w → Within (a / 2 ^ s) ((2 ^ w - 1) - ((2 ^ w - 1) - a) / 2 ^ s)
+  filled {a} ha =
+      within-of-bits (a / 2 ^ s) ((2 ^ w - 1) - n / 2 ^ s)
+      (λ j. ⊎-elim (λ (l : j < w). rw (bit-not j w (n / 2 ^ s) (lt-of-le-of-lt (shr-le n s) (ones-sub-lt w a)) l, bit-shr j n s, bit-shr j a s) (apart (s + j)))
+      (λ (l : w ≤ j). rw (bit-shr j a s, bit-high (s + j) a w ha (omega arith)) zero-le) (lt-or-ge j w))
+    where
+      n : ℕ
+      n = (2 ^ w - 1) - a
+
+      apart : (i : ℕ) → bit i a ≤ 1 - bit i n
+      apart i =
+          ⊎-elim (λ (l : i < w). rw (bit-not i w a ha l) (omega (arith, bit-lt i a))) (λ (l : w ≤ i). rw (bit-high i a w ha l) zero-le) (lt-or-ge i w)
+
+  high-within : {a b : ℕ} → a < 2 ^ w → b < 2 ^ w → Within a b → Within ((2 ^ w - 1) - ((2 ^ w - 1) - a) / 2 ^ s) ((2 ^ w - 1) - ((2 ^ w - 1) - b) / 2 ^ s)
+  high-within {a} {b} ha hb h = within-not w (lt b) (lt a) (within-div s (within-not w ha hb h))
+    where
+      lt : (x : ℕ) → ((2 ^ w - 1) - x) / 2 ^ s < 2 ^ w
+      lt x = lt-of-le-of-lt (shr-le ((2 ^ w - 1) - x) s) (ones-sub-lt w x)
+
+  ashr-within : {a b : ℕ} → a < 2 ^ w → b < 2 ^ w → Within a b → Within (signedShift w a s) (signedShift w b s)
+  ashr-within {a} {b} ha hb h = go (lt-or-ge a (2 ^ (w - 1))) (lt-or-ge b (2 ^ (w - 1)))
+    where
+      go : (a < 2 ^ (w - 1)) ⊎ (2 ^ (w - 1) ≤ a) → (b < 2 ^ (w - 1)) ⊎ (2 ^ (w - 1) ≤ b) → Within (signedShift w a s) (signedShift w b s)
+      go (inl l) (inl k) = rw (ashr-low w s l, ashr-low w s k) (within-div s h)
+      go (inl l) (inr k) = rw (ashr-low w s l, ashr-high w s (some-bit w k hb) k hb) (within-trans (filled ha) (high-within ha hb h))
+      go (inr l) (inl k) = absurd (not-le-of-lt k (le-trans l (within-le h)))
+      go (inr l) (inr k) = rw (ashr-high w s (some-bit w l ha) l ha, ashr-high w s (some-bit w k hb) k hb) (high-within ha hb h)
+
+pub agrees-ashr : (w : ℕ) (p q : Pair) (x y : ℕ) → p .hi < 2 ^ w → Agreeing p x → Agreeing q y → Agreeing (ashrPair w p q) (signedShift w x y)
+agrees-ashr w p q x y hp a b =
+    let hx = agrees-lt w hp a in
+    agrees-either (fixed q) (pair (signedShift w (p .lo) (q .lo)) (signedShift w (p .hi) (q .lo))) (anyOf w) (signedShift w x y)
+    (λ t. rw (agrees-fixed q y t b) (agrees-of-within (ashr-within w (q .lo) (lt-of-le-of-lt (within-le (lo-within a)) hx) hx (lo-within a)) (ashr-within w (q .lo) hx hp (within-hi a))))
+    (λ t. agrees-any w (signedShift w x y) (ashr-lt w x y hx))
+
+-- ---- sign extension
+
+extended-within : (wa w : ℕ) {a b : ℕ} → 1 ≤ wa → a < 2 ^ wa → b < 2 ^ wa → Within a b → Within (extended wa w a) (extended wa w b)
+extended-within wa w {a} {b} h ha hb l = within-over wa ha hb (repeated (sign wa a) (sign wa b) (bits-of-within l (wa - 1)) (bit-lt (wa - 1) b)) l
+  where
+    repeated : (s t : ℕ) → s ≤ t → t < 2 → Within (s * (2 ^ (w - wa) - 1)) (t * (2 ^ (w - wa) - 1))
+    repeated zero t k m = rw (zero-mul (2 ^ (w - wa) - 1)) (within-zero (t * (2 ^ (w - wa) - 1)))
+    repeated (suc s) t k m = let e : suc s ≡ t = omega arith in rw e (within-refl (t * (2 ^ (w - wa) - 1)))
+
+pub agrees-sext : (wa w : ℕ) (p : Pair) (x : ℕ) → 1 ≤ wa → p .hi < 2 ^ wa → Agreeing p x → Agreeing (sextPair wa w p) (extended wa w x)
+agrees-sext wa w p x h hp a =
+    let hx = agrees-lt wa hp a in
+    agrees-of-within (extended-within wa w h (lt-of-le-of-lt (within-le (lo-within a)) hx) hx (lo-within a)) (extended-within wa w h hx hp (within-hi a))
+
 -- ---- the law, for every operator
 
 pub sound : (o : Kind) (w wa wb low : ℕ) (p q r : Pair) (x y z : ℕ) → Fit (shape o .rule) w wa wb low (p .hi) (q .hi) (r .hi)
@@ -215,6 +331,12 @@ sound concat w wa wb low p q r x y z f u =
 sound extract w wa wb low p q r x y z f u =
     let a = u .a (omega arith) in
     agrees-of-within (within-mod w (within-div low (lo-within a))) (within-mod w (within-div low (within-hi a)))
+sound slt w wa wb low p q r x y z f u =
+    let a = u .a (omega arith) in
+    let b = u .b (omega arith) in
+    agrees-slt wa p q x y (f .0) (f .2) (f .3) (within-trans (lo-within a) (within-hi a)) (within-trans (lo-within b) (within-hi b)) a b
+sound ashr w wa wb low p q r x y z f u = agrees-ashr w p q x y (f .0) (u .a (omega arith)) (u .b (omega arith))
+sound sext w wa wb low p q r x y z f u = agrees-sext wa w p x (f .0) (f .2) (u .a (omega arith))
 
 -- ---- the pair worked out is a ternary word of w bits
 
@@ -235,10 +357,6 @@ bit-short s t u v w hu hv h =
     let m : 1 < 2 ^ w = pow-mono h in
     either-short s (pair u u) (either t (pair v v) (pair 0 1)) (2 ^ w) (lt-of-le-of-lt hu m)
     (either-short t (pair v v) (pair 0 1) (2 ^ w) (lt-of-le-of-lt hv m) m)
-
--- lo is no greater than hi, so what bounds hi bounds lo
-pub lo-lt : {p : Pair} {m : ℕ} → Ordered p → p .hi < m → p .lo < m
-lo-lt o h = lt-of-le-of-lt (within-le o) h
 
 free-lt : (w : ℕ) (p : Pair) → Ordered p → p .hi < 2 ^ w → freeOf p < 2 ^ w
 free-lt w p o h = xor-lt w (p .lo) (p .hi) (lo-lt o h) h
@@ -268,6 +386,13 @@ pair-short ite w wa wb low p q r h f u =
     (branch-short (p .lo) q r (2 ^ w) (f .1) (f .2)) (or-lt w (q .hi) (r .hi) (f .1) (f .2))
 pair-short concat w wa wb low p q r h f u = joined-lt w wa wb (p .hi) (q .hi) (f .0) (f .2) (f .3)
 pair-short extract w wa wb low p q r h f u = mod-lt (p .hi / 2 ^ low) (pow-pos w)
+pair-short slt w wa wb low p q r h f u =
+    let m : 1 < 2 ^ w = pow-mono h in
+    let t = signedLess wa (signedLeast wa p) (signedMost wa q) in
+    either-short (signedLess wa (signedMost wa p) (signedLeast wa q)) (pair 1 1) (either t (pair 0 1) (pair 0 0)) (2 ^ w) m (either-short t (pair 0 1) (pair 0 0) (2 ^ w) m (pow-pos w))
+pair-short ashr w wa wb low p q r h f u =
+    either-short (fixed q) (pair (signedShift w (p .lo) (q .lo)) (signedShift w (p .hi) (q .lo))) (anyOf w) (2 ^ w) (ashr-lt w (p .hi) (q .lo) (f .0)) (ones-lt w)
+pair-short sext w wa wb low p q r h f u = extended-lt wa w (f .0) (le-of-lt (f .1)) (f .2)
 
 -- lo and hi are values that agree
 pub lo-agrees : {p : Pair} → Ordered p → Agreeing p (p .lo)

@@ -2,14 +2,16 @@
 use mathlib.Core.Path.{_≡_, refl, sym, ap}
 use mathlib.Core.Bool.{Bool, true, false, _&&_, _||_, false≢true}
 use mathlib.Core.List.{List, [], _∷_}
-use Prim.Native.Nat.{ℕ, zero, suc, _≤_, _<_}
+use Prim.Native.Nat.{ℕ, zero, suc, _+_, _≤_, _<_}
 use native.Mathlib.Nat.{not-suc-le-zero, le-of-suc-le-suc, not-le-of-lt}
 use lib.Dec.{T, eqb, eqb→eq, ltb, ltb→lt}
 use lib.ListN.{length, getD, List·getD-eq-default}
-use borrow.Author.Tests.{eqb-true, leb-true, eq-eqb, le-leb}
+use mir.Val.{hasKey}
+use types.Run.{OneOf, hit}
+use borrow.Author.Tests.{eqb-true, leb-true, ltb-true, eq-eqb, le-leb, lt-ltb}
 use Rattle.words.specs.laws.Cases.{every, every-at}
 use Rattle.operators.specs.declared.table.Rule.{Rule}
-use Rattle.operators.specs.declared.table.Rule.the-variants.{Free, One, Both, Equal, Choice, Sum, Part}
+use Rattle.operators.specs.declared.table.Rule.the-variants.{Free, One, Both, Equal, Choice, Sum, Part, Longer}
 use Rattle.operators.specs.declared.table.Shape.{Shape}
 use Rattle.operators.specs.Table.{Kind, variable, kinds, kindCount, shape, shapeOf, RuleMet, ruleHolds}
 
@@ -33,18 +35,36 @@ pub or-right : (a b : Bool) → T (a || b) → (T a → ⊥) → T b
 or-right true b h f = absurd (f tt)
 or-right false b h f = h
 
--- the kinds from lo up to hi have n operands: one computed test of them
-pub counted :
-    (lo hi n : ℕ)
-    → T (every hi (λ x. ltb x lo || eqb n (shapeOf x .operands)))
-    → (k : ℕ)
-    → lo ≤ k
-    → k < hi
-    → n ≡ shapeOf k .operands
-counted lo hi n t k l u =
-    eqb→eq n (shapeOf k .operands)
-    (or-right (ltb k lo) (eqb n (shapeOf k .operands)) (every-at hi (λ x. ltb x lo || eqb n (shapeOf x .operands)) t k u)
-    (λ h. not-le-of-lt (ltb→lt k lo h) l))
+-- n is none of the keys of some arms, the last arm first, as a match tells it to its ranges and its last arm
+abbrev pub Without : List (List ℕ) → ℕ → Type 0
+Without [] n = Unit {0}
+Without (ks ∷ arms) n = Without arms n × (OneOf ks n → ⊥)
+
+abbrev pub keyed : List (List ℕ) → ℕ → Bool
+keyed [] n = false
+keyed (ks ∷ arms) n = hasKey ks n || keyed arms n
+
+-- the k numbers from m on, each an arm
+abbrev pub singles : ℕ → ℕ → List (List ℕ)
+singles m zero = []
+singles m (suc k) = ((m + k) ∷ []) ∷ singles m k
+
+not-keyed : (arms : List (List ℕ)) (n : ℕ) → Without arms n → T (keyed arms n) → ⊥
+not-keyed [] n w h = h
+not-keyed (ks ∷ arms) n w h = not-keyed arms n (w .0) (or-right (hasKey ks n) (keyed arms n) h (λ k. w .1 (hit ks n k)))
+
+-- what is left of the numbers from lo up to hi has the property that one computed test finds of each without an arm
+pub left-over : (lo hi : ℕ) (arms : List (List ℕ)) (Q : ℕ → Bool) → T (every hi (λ x. ltb x lo || (keyed arms x || Q x)))
+    → (n : ℕ) → lo ≤ n → n < hi → Without arms n → T (Q n)
+left-over lo hi arms Q h n l u w =
+    or-right (keyed arms n) (Q n)
+    (or-right (ltb n lo) (keyed arms n || Q n) (every-at hi (λ x. ltb x lo || (keyed arms x || Q x)) h n u) (λ k. not-le-of-lt (ltb→lt n lo k) l))
+    (not-keyed arms n w)
+
+-- so many operands
+pub counted : (lo hi n : ℕ) (arms : List (List ℕ)) → T (every hi (λ x. ltb x lo || (keyed arms x || eqb n (shapeOf x .operands))))
+    → (k : ℕ) → lo ≤ k → k < hi → Without arms k → n ≡ shapeOf k .operands
+counted lo hi n arms t k l u w = eqb→eq n (shapeOf k .operands) (left-over lo hi arms (λ x. eqb n (shapeOf x .operands)) t k l u w)
 
 -- what holds of each kind of a list and its number
 abbrev pub AllFrom : (ℕ → Kind → Type 0) → List Kind → Type 0
@@ -82,6 +102,7 @@ rule-met Choice w wa wb wc b h =
     )
 rule-met Sum w wa wb wc b h = eqb-true _ _ h
 rule-met Part w wa wb wc b h = leb-true _ _ h
+rule-met Longer w wa wb wc b h = ltb-true _ _ h
 
 pub rule-tested : (r : Rule) (w wa wb wc b : ℕ) → RuleMet r w wa wb wc b → ruleHolds r w wa wb wc b ≡ true
 unfolding ruleHolds
@@ -92,3 +113,4 @@ rule-tested Equal w wa wb wc b h = both-of (eq-eqb _ _ (h .0)) (eq-eqb _ _ (h .1
 rule-tested Choice w wa wb wc b h = both-of (both-of (eq-eqb _ _ (h .0)) (eq-eqb _ _ (h .1))) (eq-eqb _ _ (h .2))
 rule-tested Sum w wa wb wc b h = eq-eqb _ _ h
 rule-tested Part w wa wb wc b h = le-leb _ _ h
+rule-tested Longer w wa wb wc b h = lt-ltb _ _ h

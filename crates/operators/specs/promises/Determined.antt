@@ -9,7 +9,7 @@ use Rattle.operators.specs.declared.meaning.Op.{Op}
 use Rattle.operators.specs.declared.table.Rule.{Rule}
 use Rattle.operators.specs.declared.table.Shape.{Shape}
 use Rattle.operators.specs.Table.{kindOf, shapeOf, ruleHolds}
-use Rattle.operators.specs.Meaning.{meaning}
+use Rattle.operators.specs.Meaning.{extended, meaning}
 use Rattle.operators.specs.Fixed.{pairOf}
 
 -- every contract here is an equation
@@ -30,6 +30,12 @@ flip-determined a w r s = equal
 
 pub part-determined : (a k w r s : ℕ) → r ≡ a / 2 ^ k % 2 ^ w → s ≡ a / 2 ^ k % 2 ^ w → r ≡ s
 part-determined a k w r s = equal
+
+pub half-determined : (w r s : ℕ) → r ≡ 2 ^ (w - 1) → s ≡ 2 ^ (w - 1) → r ≡ s
+half-determined w r s = equal
+
+pub extend-determined : (a k w r s : ℕ) → r ≡ extended k w a → s ≡ extended k w a → r ≡ s
+extend-determined a k w r s = equal
 
 pub value-determined : (op : Op) (held : List ℕ) (a b c r s : ℕ)
     → r ≡ meaning (kindOf (op .kind)) (op .width) (op .wa) (op .wb) (op .low) (getD held a 0) (getD held b 0) (getD held c 0)

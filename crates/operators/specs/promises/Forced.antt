@@ -1,7 +1,8 @@
--- The definition of the fixed bits, held against document 01's sentences: for not, and, xor, concat and extract exactly the bits that the operator
--- forces are fixed; for the others each sentence is a theorem, but for below, whose definition is the sentence.
+-- The definition of the fixed bits, held against the sentences of documents 01 and 02 (R-1): for not, and, xor, concat, extract, signed below and sign
+-- extension exactly the bits that the operator forces are fixed; for the others each sentence is a theorem, but for below, whose definition is the
+-- sentence.
 use mathlib.Core.Path.{_≡_, refl, sym, ap, ap₂, _∙_}
-use mathlib.Core.Bool.{true, false}
+use mathlib.Core.Bool.{Bool, true, false}
 use mathlib.Core.Logic.{_⊎_, inl, inr, ⊎-elim, _↔_}
 use Prim.Native.Nat.{ℕ, zero, suc, _+_, _-_, _*_, _/_, _%_, _^_, _≤_, _<_, min, max}
 use native.Mathlib.Nat.{le-antisymm, le-of-eq, le-trans, mod-lt, not-suc-le-zero, le-of-suc-le-suc}
@@ -11,16 +12,20 @@ use lib.Bits.{bitAnd, bitOr, bitXor, xor-self}
 use lib.Count.{trailingZeros, under}
 use lib.Pow.{pow-pos}
 use borrow.Author.Tests.{lt-ltb, le-ltb, eq-eqb, ne-eqb}
-use Rattle.words.specs.laws.Agree.{bits-of-within}
+use Rattle.words.specs.Agree.{Agrees}
+use Rattle.words.specs.laws.Agree.{bits-of-within, agrees-of-within, lo-within, within-hi, within-div, within-mod, within-join, agrees-lt}
 use Rattle.words.specs.Bits.{bit}
 use Rattle.words.specs.laws.Bits.{bit-lt, bit-zero, bit-of-zero, bit-half, bit-and, bit-or, bit-xor, bit-cut, bit-cut-high, bit-high, bit-shr, bit-shl-low, bit-over-low, bit-over-high, ones-bit, xor-none, lt-or-ge}
 use Rattle.words.specs.laws.Less.{or-zero}
+use Rattle.words.specs.inner.Words.{over}
+use Rattle.words.specs.laws.Narrow.{over-div, over-mod}
 use Rattle.operators.specs.declared.fixed.Pair.{Pair}
-use Rattle.operators.specs.Table.{Kind, inv, conj, xor, add, concat, extract, shape}
-use Rattle.operators.specs.Meaning.{meaning, Fit}
-use Rattle.operators.specs.Fixed.{pair, freeOf, fixed, known, lowest, upTo, apart, told, eqPair, shlPair, lshrPair, itePair, pairOf}
-use Rattle.operators.specs.inner.Ready.{Used, Ordered, Agreeing}
-use Rattle.operators.specs.laws.Sound.{sound, used-to, lo-agrees, hi-agrees, lo-lt, known-lo, none-free, lowest-le, lowest-none, upTo-hi}
+use Rattle.operators.specs.Table.{Kind, inv, conj, xor, add, concat, extract, slt, sext, shape}
+use Rattle.operators.specs.Meaning.{flag, signedLess, meaning, Fit}
+use Rattle.operators.specs.Fixed.{pair, freeOf, fixed, known, lowest, upTo, apart, told, eqPair, shlPair, lshrPair, itePair, signedLeast, signedMost, sltPair, ashrPair, sextPair, pairOf, either}
+use Rattle.operators.specs.inner.Ready.{Used, Ordered, Ternary, Agreeing}
+use Rattle.operators.specs.laws.Signed.{signed-order, ashr-kept, ashr-filled, extended-kept, extended-filled}
+use Rattle.operators.specs.laws.Sound.{least-lt, most-lt, from-least, upto-most, sound, used-to, lo-agrees, hi-agrees, lo-lt, known-lo, none-free, lowest-le, lowest-none, upTo-hi}
 
 -- "A bit is fixed where lo and hi agree."
 abbrev pub FixedIn : Pair → ℕ → Type 0
@@ -32,14 +37,16 @@ pub record FixedAt (p : Pair) (j b : ℕ) : Type 0 where
   pub high : bit j (p .hi) ≡ b
 
 -- ---- "not, and, xor, concat, extract: a bit is fixed exactly if the operator forces it from the fixed bits at its positions, the operands taken as
--- independent"
+-- independent"; so it is for signed below and sign extension
 
-pub data Bitwise : Kind → Type 0 where
-  of-not : Bitwise inv
-  of-and : Bitwise conj
-  of-xor : Bitwise xor
-  of-concat : Bitwise concat
-  of-extract : Bitwise extract
+pub data Exactly : Kind → Type 0 where
+  of-not : Exactly inv
+  of-and : Exactly conj
+  of-xor : Exactly xor
+  of-concat : Exactly concat
+  of-extract : Exactly extract
+  of-slt : Exactly slt
+  of-sext : Exactly sext
 
 -- the operator forces bit j to b: any values of the operands, each agreeing with its pair, give b there
 abbrev pub Forced : Kind → ℕ → ℕ → ℕ → ℕ → Pair → Pair → Pair → ℕ → ℕ → Type 0
@@ -52,6 +59,20 @@ pub fixed-forced : (o : Kind) (w wa wb low : ℕ) (p q r : Pair) → Fit (shape 
 fixed-forced o w wa wb low p q r f j b g x y z u =
     let s = sound o w wa wb low p q r x y z f u in
     le-antisymm (le-trans (s .under j) (le-of-eq (g .high))) (le-trans (le-of-eq (sym (g .low))) (s .over j))
+
+-- of two values that agree, the high bits of one over the low bits of the other
+mixed-agrees : (k : ℕ) {lo hi a c : ℕ} → Agrees lo hi a → Agrees lo hi c → Agrees lo hi (over k a (c % 2 ^ k))
+mixed-agrees k {lo} {hi} {a} {c} f g =
+    let l : c % 2 ^ k < 2 ^ k = mod-lt c (pow-pos k) in
+    agrees-of-within
+    (within-join k lo (over k a (c % 2 ^ k)) (rw (over-div k a (c % 2 ^ k) l) (within-div k (lo-within f))) (rw (over-mod k a (c % 2 ^ k) l) (within-mod k (lo-within g))))
+    (within-join k (over k a (c % 2 ^ k)) hi (rw (over-div k a (c % 2 ^ k) l) (within-div k (within-hi f))) (rw (over-mod k a (c % 2 ^ k) l) (within-mod k (within-hi g))))
+
+least-agrees : (w : ℕ) (p : Pair) → Ordered p → Agreeing p (signedLeast w p)
+least-agrees w p o = mixed-agrees (w - 1) (hi-agrees o) (lo-agrees o)
+
+most-agrees : (w : ℕ) (p : Pair) → Ordered p → Agreeing p (signedMost w p)
+most-agrees w p o = mixed-agrees (w - 1) (lo-agrees o) (hi-agrees o)
 
 module _ (w wa wb low : ℕ) (p q r : Pair) (j b : ℕ) where
   -- xor: with the other operand held, neither operand's bit can change
@@ -78,12 +99,24 @@ module _ (w wa wb low : ℕ) (p q r : Pair) (j b : ℕ) where
         high = bit-or j v f ∙ omega arith;
       }
 
+  -- signed below: the two tests are values of the operator, at the signed extremes
+  slt-fixed : Used 2 (Ordered p) (Ordered q) (Ordered r) → Forced slt w wa wb low p q r j b → FixedAt (sltPair wa p q) j b
+  slt-fixed u f =
+      go (signedLess wa (signedMost wa p) (signedLeast wa q)) (signedLess wa (signedLeast wa p) (signedMost wa q))
+      (f (signedMost wa p) (signedLeast wa q) (r .lo) (used-to (most-agrees wa p) (least-agrees wa q) lo-agrees u))
+      (f (signedLeast wa p) (signedMost wa q) (r .lo) (used-to (least-agrees wa p) (most-agrees wa q) lo-agrees u))
+    where
+      go : (s t : Bool) → bit j (flag s) ≡ b → bit j (flag t) ≡ b → FixedAt (either s (pair 1 1) (either t (pair 0 1) (pair 0 0))) j b
+      go true t d e = record { low = d; high = d }
+      go false true d e = record { low = d; high = e }
+      go false false d e = record { low = d; high = d }
+
   -- the others: lo and hi are themselves values of the operator, at the operands' los and his
-  forced-fixed : (o : Kind) → Bitwise o → Used (shape o .operands) (Ordered p) (Ordered q) (Ordered r) → Forced o w wa wb low p q r j b
+  forced-fixed : (o : Kind) → Exactly o → Used (shape o .operands) (Ordered p) (Ordered q) (Ordered r) → Forced o w wa wb low p q r j b
       → FixedAt (pairOf o w wa wb low p q r) j b
   forced-fixed o k u f = go k u (f (p .lo) (q .lo) (r .lo) (used-to lo-agrees lo-agrees lo-agrees u)) (f (p .hi) (q .hi) (r .hi) (used-to hi-agrees hi-agrees hi-agrees u)) f
     where
-      go : {o : Kind} → Bitwise o → Used (shape o .operands) (Ordered p) (Ordered q) (Ordered r)
+      go : {o : Kind} → Exactly o → Used (shape o .operands) (Ordered p) (Ordered q) (Ordered r)
           → bit j (meaning o w wa wb low (p .lo) (q .lo) (r .lo)) ≡ b → bit j (meaning o w wa wb low (p .hi) (q .hi) (r .hi)) ≡ b
           → Forced o w wa wb low p q r j b → FixedAt (pairOf o w wa wb low p q r) j b
       go of-not u d e f = record { low = e; high = d }
@@ -91,8 +124,10 @@ module _ (w wa wb low : ℕ) (p q r : Pair) (j b : ℕ) where
       go of-xor u d e f = xor-fixed u f
       go of-concat u d e f = record { low = d; high = e }
       go of-extract u d e f = record { low = d; high = e }
+      go of-slt u d e f = slt-fixed u f
+      go of-sext u d e f = record { low = d; high = e }
 
-pub forced : (o : Kind) → Bitwise o → (w wa wb low : ℕ) (p q r : Pair) → Fit (shape o .rule) w wa wb low (p .hi) (q .hi) (r .hi)
+pub forced : (o : Kind) → Exactly o → (w wa wb low : ℕ) (p q r : Pair) → Fit (shape o .rule) w wa wb low (p .hi) (q .hi) (r .hi)
     → Used (shape o .operands) (Ordered p) (Ordered q) (Ordered r) → (j b : ℕ) → FixedAt (pairOf o w wa wb low p q r) j b ↔ Forced o w wa wb low p q r j b
 forced o k w wa wb low p q r f u j b = (fixed-forced o w wa wb low p q r f j b, forced-fixed w wa wb low p q r j b o k u)
 
@@ -292,3 +327,49 @@ if-alike p q r e oq or j b = rw e (to, back)
       low = bit-and j (q .lo) (r .lo) ∙ omega (arith, f .0 .low, f .1 .low);
       high = bit-or j (q .hi) (r .hi) ∙ omega (arith, f .0 .high, f .1 .high);
     }
+
+-- ---- 02, R-1, signed below: "decided when the signed least and greatest values of the pairs decide it, else free", by the two values that its
+-- definition names
+
+-- v is the signed least, or the signed greatest, of the values that agree with p
+pub record LeastOf (w : ℕ) (p : Pair) (v : ℕ) : Type 0 where
+  pub agrees : Agreeing p v
+  pub least : (x : ℕ) → Agreeing p x → signedLess w x v ≡ false
+
+pub record MostOf (w : ℕ) (p : Pair) (v : ℕ) : Type 0 where
+  pub agrees : Agreeing p v
+  pub most : (x : ℕ) → Agreeing p x → signedLess w v x ≡ false
+
+module _ (w : ℕ) (p : Pair) (h : 1 ≤ w) (t : Ternary w p) where
+  pub signed-least : LeastOf w p (signedLeast w p)
+  signed-least = record {
+    agrees = least-agrees w p (t .ordered);
+    least = λ x a. signed-order w x (signedLeast w p) h (agrees-lt w (t .short) a) (least-lt w p h (t .short)) ∙ le-ltb _ _ (from-least w p h (t .short) x a);
+  }
+
+  pub signed-most : MostOf w p (signedMost w p)
+  signed-most = record {
+    agrees = most-agrees w p (t .ordered);
+    most = λ x a. signed-order w (signedMost w p) x h (most-lt w p h (t .short) (t .ordered)) (agrees-lt w (t .short) a) ∙ le-ltb _ _ (upto-most w p h (t .short) x a (t .ordered));
+  }
+
+-- ---- arithmetic shift: "as lshr with the sign's ternary bit filling"; sign extension: "the top bit's state is copied"
+
+-- bit j of q has the state of bit i of p: fixed at 0 or at 1, or free
+pub record Copied (p : Pair) (i : ℕ) (q : Pair) (j : ℕ) : Type 0 where
+  pub low : bit j (q .lo) ≡ bit i (p .lo)
+  pub high : bit j (q .hi) ≡ bit i (p .hi)
+
+module _ (w j : ℕ) (p q : Pair) (h : 1 ≤ w) (t : Ternary w p) (e : fixed q ≡ true) (l : j < w) where
+  pub ashr-shifted : q .lo + j < w → Copied p (q .lo + j) (ashrPair w p q) j
+  ashr-shifted i = rw e (record { low = ashr-kept w (p .lo) (q .lo) j h (lo-lt (t .ordered) (t .short)) l i; high = ashr-kept w (p .hi) (q .lo) j h (t .short) l i })
+
+  pub ashr-signed : w ≤ q .lo + j → Copied p (w - 1) (ashrPair w p q) j
+  ashr-signed i = rw e (record { low = ashr-filled w (p .lo) (q .lo) j h (lo-lt (t .ordered) (t .short)) l i; high = ashr-filled w (p .hi) (q .lo) j h (t .short) l i })
+
+module _ (wa w j : ℕ) (p : Pair) (t : Ternary wa p) where
+  pub sext-kept : j < wa → Copied p j (sextPair wa w p) j
+  sext-kept l = record { low = extended-kept wa w (p .lo) j (lo-lt (t .ordered) (t .short)) l; high = extended-kept wa w (p .hi) j (t .short) l }
+
+  pub sext-copied : j < w - wa → Copied p (wa - 1) (sextPair wa w p) (wa + j)
+  sext-copied l = record { low = extended-filled wa w (p .lo) j (lo-lt (t .ordered) (t .short)) l; high = extended-filled wa w (p .hi) j (t .short) l }

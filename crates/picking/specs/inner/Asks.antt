@@ -13,6 +13,17 @@ pub record Sized (w t : ℕ) : Type 0 where
   pub wide : w ≤ 64
   pub fits : t < 2 ^ w
 
+-- a word of a width of 1 to 64 bits
+pub record Word (w x : ℕ) : Type 0 where
+  pub some : 1 ≤ w
+  pub wide : w ≤ 64
+  pub fits : x < 2 ^ w
+
+-- u is t, or where the sign of t is set its complement: the sign of u is clear
+pub record Folded (w t u : ℕ) : Type 0 where
+  pub small : u < 2 ^ (w - 1)
+  pub other : (u ≡ t → ⊥) → u ≡ (2 ^ w - 1) - t
+
 -- v at position i of two, s at the other
 abbrev pub joint : ℕ → ℕ → ℕ → Three
 joint zero v s = record { a = v; b = s; c = 0 }
@@ -39,6 +50,10 @@ pub record Joined (i a b t : ℕ) : Type 0 where
   pub some : 1 ≤ a
   pub wide : a + b ≤ 64
   pub fits : t < 2 ^ (a + b)
+
+-- the kinds of one position: not, extract, sign extension
+abbrev pub Alone : ℕ → Type 0
+Alone n = (n ≡ 2) ⊎ ((n ≡ 13) ⊎ (n ≡ 16))
 
 -- t is had from an `if` of which one branch has the value kept and is taken where the condition is way: the condition's
 -- pair is lo, hi, and the other branch's l, h

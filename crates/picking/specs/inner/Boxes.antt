@@ -1,7 +1,7 @@
 -- Sets of words as unions of boxes: what is in one, and when one holds the solutions of an equation.
 use mathlib.Core.Path.{_≡_}
 use mathlib.Core.Bool.{true}
-use Prim.Native.Nat.{ℕ, _+_, _-_, _*_, _/_, _%_, _^_, _≤_, _<_}
+use Prim.Native.Nat.{ℕ, zero, suc, _+_, _-_, _*_, _/_, _%_, _^_, _≤_, _<_}
 use lib.Bits.{bitAnd, bitOr}
 use Rattle.words.specs.Agree.{Agrees}
 use Rattle.words.specs.inner.Words.{over}
@@ -9,10 +9,10 @@ use Rattle.words.specs.Pick.{Between}
 use Rattle.picking.specs.declared.boxes.Box.{Box}
 use Rattle.picking.specs.declared.boxes.Set.{Set}
 use Rattle.picking.specs.declared.boxes.Set.the-variants.{Empty, Only, One, Many}
-use Rattle.picking.specs.declared.unions.Shifts.{Shifts}
-use Rattle.picking.specs.declared.unions.Shifts.the-variants.{Left, Right}
+use Rattle.picking.specs.declared.unions.Row.{Row}
+use Rattle.picking.specs.declared.unions.Row.the-variants.{Left, Right, Mirrored, Ends}
 use Rattle.picking.specs.declared.unions.Union.{Union}
-use Rattle.picking.specs.declared.unions.Union.the-variants.{Except, Low, Shifted}
+use Rattle.picking.specs.declared.unions.Union.the-variants.{Except, Low, Several}
 
 -- v lies in the box: it agrees with its ternary word and lies in its interval
 abbrev pub In : Box → ℕ → Type 0
@@ -34,13 +34,39 @@ lowAre n c = word c (over n (2 ^ 64 - 1) c)
 abbrev pub met : Box → ℕ → ℕ → Box
 met b l h = record { lo = bitOr l (b .lo); hi = bitAnd h (b .hi); least = b .least; most = b .most }
 
--- what a shift by j takes to the target
-abbrev pub boxOf : Shifts → ℕ → Box
-boxOf (Left t w) j = lowAre (w - j) (t / 2 ^ j)
-boxOf (Right t) j = span (t * 2 ^ j) (t * 2 ^ j + (2 ^ j - 1))
+-- the complements, of w bits, of the values of a box
+abbrev pub mirrored : ℕ → Box → Box
+mirrored w b = record {
+  lo = (2 ^ w - 1) - b .hi % 2 ^ w;
+  hi = (2 ^ w - 1) - b .lo;
+  least = (2 ^ w - 1) - b .most;
+  most = (2 ^ w - 1) - b .least;
+}
 
--- v is in the box of a shift by less than n
-pub record Among (S : Shifts) (n v : ℕ) : Type 0 where
+-- a box whose bounds are words of w bits
+pub record Bounded (w : ℕ) (b : Box) : Type 0 where
+  pub low : b .lo < 2 ^ w
+  pub from : b .least < 2 ^ w
+  pub upto : b .most < 2 ^ w
+
+-- what a shift to the right by j takes to t
+abbrev pub shiftedTo : ℕ → ℕ → Box
+shiftedTo t j = span (t * 2 ^ j) (t * 2 ^ j + (2 ^ j - 1))
+
+-- up to a, and from b on
+abbrev pub endAt : ℕ → ℕ → ℕ → Box
+endAt a b zero = span 0 a
+endAt a b (suc j) = span b (2 ^ 64 - 1)
+
+-- the box at place j of a row
+abbrev pub boxOf : Row → ℕ → Box
+boxOf (Left t w) j = lowAre (w - j) (t / 2 ^ j)
+boxOf (Right t) j = shiftedTo t j
+boxOf (Mirrored u w) j = mirrored w (shiftedTo u j)
+boxOf (Ends a b) j = endAt a b j
+
+-- v is in one of the first n boxes
+pub record Among (S : Row) (n v : ℕ) : Type 0 where
   pub at : ℕ
   pub below : at < n
   pub inside : In (boxOf S at) v
@@ -49,7 +75,7 @@ pub record Among (S : Shifts) (n v : ℕ) : Type 0 where
 abbrev pub HasOf : Union → ℕ → Type 0
 HasOf (Except s) v = v ≡ s → ⊥
 HasOf (Low m) v = v % 2 ^ m ≡ 0 → ⊥
-HasOf (Shifted S n) v = Among S n v
+HasOf (Several S n) v = Among S n v
 
 abbrev pub Has : Set → ℕ → Type 0
 Has Empty v = ⊥
@@ -61,8 +87,10 @@ Has (Many U) v = HasOf U v
 abbrev pub FineOf : Union → Type 0
 FineOf (Except s) = Unit {0}
 FineOf (Low m) = m ≤ 64
-FineOf (Shifted (Left t w) n) = (n ≤ w) × (w ≤ 64) × (t < 2 ^ w)
-FineOf (Shifted (Right t) n) = (n ≤ 64) × ((j : ℕ) → j < n → t * 2 ^ j + 2 ^ j ≤ 2 ^ 64)
+FineOf (Several (Left t w) n) = (n ≤ w) × (w ≤ 64) × (t < 2 ^ w)
+FineOf (Several (Right t) n) = (n ≤ 64) × ((j : ℕ) → j < n → t * 2 ^ j + 2 ^ j ≤ 2 ^ 64)
+FineOf (Several (Mirrored u w) n) = (1 ≤ w) × (w ≤ 64) × (n ≤ w) × ((j : ℕ) → j < n → u * 2 ^ j + 2 ^ j ≤ 2 ^ w)
+FineOf (Several (Ends a b) n) = Unit {0}
 
 abbrev pub Fine : Set → Type 0
 Fine Empty = Unit {0}

@@ -1,4 +1,4 @@
--- Document 01, "Numbers to test by": those marked P, of the definitions, as one table.
+-- Document 01, "Numbers to test by": those marked P, of the definitions, as one table; and rows like these for the kinds that 02 adds.
 use mathlib.Core.Path.{_≡_, refl, sym, subst, _∙_}
 use mathlib.Core.Logic.{_⊎_, inl, inr, ⊎-elim}
 use mathlib.Core.Bool.{Bool, true, false, _&&_, _||_}
@@ -10,15 +10,17 @@ use lib.Dec.{T, eqb, ltb, eqb→eq, ltb→lt}
 use lib.Count.{trailingZeros}
 use lib.Ieee.Fits.{and-l, and-r}
 use borrow.Author.Tests.{ltb-true}
+use Rattle.words.specs.Bits.{bit}
 use Rattle.words.specs.laws.Bits.{lt-or-ge}
 use Rattle.words.specs.Agree.{Agrees}
 use Rattle.words.specs.laws.Agree.{agrees-lt, agrees-of-within, within-zero, within-ones, within-hi, within-le}
 use Rattle.words.specs.laws.Cases.{every, every-at, Passes, pickIs, pick-of}
 use Rattle.words.specs.laws.Mul.{solve}
+use Rattle.words.specs.inner.Words.{over}
 use Rattle.words.specs.Pick.{Pick, above}
 use Rattle.words.specs.laws.Pick.{pick-same}
 use Rattle.operators.specs.declared.fixed.Pair.{Pair}
-use Rattle.operators.specs.Table.{add}
+use Rattle.operators.specs.Table.{add, slt, ashr, sext}
 use Rattle.operators.specs.Meaning.{flag}
 use Rattle.operators.specs.Fixed.{pair, pairOf}
 use Rattle.picking.specs.declared.spot.Spot.{Spot}
@@ -65,7 +67,8 @@ node k w x y = record {
   current = record { a = x .now; b = y .now; c = 0 };
 }
 
--- the kinds by their numbers: 3 and, 5 add, 6 mul, 7 shl, 8 lshr, 9 eq, 10 below; x stands at position 0 but in the shl
+-- the kinds by their numbers: 3 and, 5 add, 6 mul, 7 shl, 8 lshr, 9 eq, 10 below, 14 signed below, 15 arithmetic shift, 16 sign extension; x stands
+-- at position 0 but where an amount is asked for
 pub record PaperNumbers : Type 0 where
   -- "4 bits, x · 6 = 2: inverse set 3, 11. Proposal 4 gives 11; 12 gives 3."
   pub product : Exactly (Inverse (node 6 4 (free 4) (number 4 6)) 2 0) (3 ∷ 11 ∷ [])
@@ -97,6 +100,28 @@ pub record PaperNumbers : Type 0 where
   pub equal-fixed : Exactly (Inverse (node 9 1 (number 1 1) (number 1 1)) 0 0) []
   -- "4 bits, x with low bits 01 and top two free, plus 3: fixed low bits 00, top two free."
   pub fixed-sum : (r : Pair) → pairOf add 4 4 4 0 (pair 1 13) (pair 3 3) r ≡ pair 0 12
+  -- R-1. 4 bits, x signed below 2: 0, 1 and the negative ones; proposal 3 gives 8. With x's sign fixed at 0, x signed below 9 (that is -7): nothing.
+  pub signed : Exactly (Inverse (node 14 1 (free 4) (number 4 2)) 1 0) (0 ∷ 1 ∷ 8 ∷ 9 ∷ 10 ∷ 11 ∷ 12 ∷ 13 ∷ 14 ∷ 15 ∷ [])
+  pub signed-3 : Pick (Inverse (node 14 1 (free 4) (number 4 2)) 1 0) 3 8
+  pub signed-fixed : Exactly (Inverse (node 14 1 (operand 4 0 7 0) (number 4 9)) 1 0) []
+  -- x signed below s, consistent: all but 7, the greatest.
+  pub signed-some : Exactly (Consistent (node 14 1 (free 4) (free 4)) 1 0) (0 ∷ 1 ∷ 2 ∷ 3 ∷ 4 ∷ 5 ∷ 6 ∷ 8 ∷ 9 ∷ 10 ∷ 11 ∷ 12 ∷ 13 ∷ 14 ∷ 15 ∷ [])
+  -- 1*** is signed below 0***; *000 and 0000 leave it open.
+  pub signed-pair : (r : Pair) → pairOf slt 1 4 4 0 (pair 8 15) (pair 0 7) r ≡ pair 1 1
+  pub signed-open : (r : Pair) → pairOf slt 1 4 4 0 (pair 0 8) (pair 0 0) r ≡ pair 0 1
+  -- 4 bits, x ashr 1 = 12: 8 and 9; x ashr 1 = 4: nothing. 9 ashr x = 15: 3 to 15.
+  pub filled : Exactly (Inverse (node 15 4 (free 4) (number 4 1)) 12 0) (8 ∷ 9 ∷ [])
+  pub unfilled : Exactly (Inverse (node 15 4 (free 4) (number 4 1)) 4 0) []
+  pub filled-amount : Exactly (Inverse (node 15 4 (number 4 9) (free 4)) 15 1) (3 ∷ 4 ∷ 5 ∷ 6 ∷ 7 ∷ 8 ∷ 9 ∷ 10 ∷ 11 ∷ 12 ∷ 13 ∷ 14 ∷ 15 ∷ [])
+  -- x ashr s = 13, consistent: 10, 11, 13; proposal 12 gives 13.
+  pub filled-some : Exactly (Consistent (node 15 4 (free 4) (free 4)) 13 0) (10 ∷ 11 ∷ 13 ∷ [])
+  pub filled-some-12 : Pick (Consistent (node 15 4 (free 4) (free 4)) 13 0) 12 13
+  -- 1*00 shifted by 1 is 11*0.
+  pub filled-pair : (r : Pair) → pairOf ashr 4 4 4 0 (pair 8 12) (pair 1 1) r ≡ pair 12 14
+  -- x of 4 bits extended to 8 is 249: 9; is 9: nothing. *001 extended to 6 bits is ***001.
+  pub extended : Exactly (Inverse (node 16 8 (free 4) (number 0 0)) 249 0) (9 ∷ [])
+  pub unextended : Exactly (Inverse (node 16 8 (free 4) (number 0 0)) 9 0) []
+  pub extended-pair : (q r : Pair) → pairOf sext 6 4 0 0 (pair 1 9) q r ≡ pair 1 57
 
 -- ---- its proof: small widths by a test of every value, 64 bits by law
 
@@ -221,7 +246,18 @@ sum-pair : (r : Pair) → pairOf add 4 4 4 0 (pair 1 13) (pair 3 3) r ≡ pair 0
 unfolding trailingZeros
 sum-pair r = refl
 
+-- signed words, whose signs are bits
+module _ (q r : Pair) where
+  pairs-signed : (pairOf slt 1 4 4 0 (pair 8 15) (pair 0 7) r ≡ pair 1 1) × (pairOf slt 1 4 4 0 (pair 0 8) (pair 0 0) r ≡ pair 0 1)
+  unfolding bit over
+  pairs-signed = (refl, refl)
+
+  pairs-filled : (pairOf ashr 4 4 4 0 (pair 8 12) (pair 1 1) r ≡ pair 12 14) × (pairOf sext 6 4 0 0 (pair 1 9) q r ≡ pair 1 57)
+  unfolding bit
+  pairs-filled = (refl, refl)
+
 pub paper-numbers : PaperNumbers
+unfolding bit
 paper-numbers = record {
   product = inverses (node 6 4 (free 4) (number 4 6)) 2 0 (omega arith) (3 ∷ 11 ∷ []) tt;
   product-4 = inverse-pick (node 6 4 (free 4) (number 4 6)) 2 0 (omega arith) 4 11 tt;
@@ -243,4 +279,19 @@ paper-numbers = record {
   equal = inverses (node 9 1 (free 1) (number 1 1)) 0 0 (omega arith) (0 ∷ []) tt;
   equal-fixed = inverses (node 9 1 (number 1 1) (number 1 1)) 0 0 (omega arith) [] tt;
   fixed-sum = sum-pair;
+  signed = inverses (node 14 1 (free 4) (number 4 2)) 1 0 (omega arith) (0 ∷ 1 ∷ 8 ∷ 9 ∷ 10 ∷ 11 ∷ 12 ∷ 13 ∷ 14 ∷ 15 ∷ []) tt;
+  signed-3 = inverse-pick (node 14 1 (free 4) (number 4 2)) 1 0 (omega arith) 3 8 tt;
+  signed-fixed = inverses (node 14 1 (operand 4 0 7 0) (number 4 9)) 1 0 (omega arith) [] tt;
+  signed-some = consistents (node 14 1 (free 4) (free 4)) 1 0 (omega arith) (omega arith) (0 ∷ 1 ∷ 2 ∷ 3 ∷ 4 ∷ 5 ∷ 6 ∷ 8 ∷ 9 ∷ 10 ∷ 11 ∷ 12 ∷ 13 ∷ 14 ∷ 15 ∷ []) tt;
+  signed-pair = λ r. pairs-signed r r .0;
+  signed-open = λ r. pairs-signed r r .1;
+  filled = inverses (node 15 4 (free 4) (number 4 1)) 12 0 (omega arith) (8 ∷ 9 ∷ []) tt;
+  unfilled = inverses (node 15 4 (free 4) (number 4 1)) 4 0 (omega arith) [] tt;
+  filled-amount = inverses (node 15 4 (number 4 9) (free 4)) 15 1 (omega arith) (3 ∷ 4 ∷ 5 ∷ 6 ∷ 7 ∷ 8 ∷ 9 ∷ 10 ∷ 11 ∷ 12 ∷ 13 ∷ 14 ∷ 15 ∷ []) tt;
+  filled-some = consistents (node 15 4 (free 4) (free 4)) 13 0 (omega arith) (omega arith) (10 ∷ 11 ∷ 13 ∷ []) tt;
+  filled-some-12 = consistent-pick (node 15 4 (free 4) (free 4)) 13 0 (omega arith) (omega arith) 12 13 tt;
+  filled-pair = λ r. pairs-filled r r .0;
+  extended = inverses (node 16 8 (free 4) (number 0 0)) 249 0 (omega arith) (9 ∷ []) tt;
+  unextended = inverses (node 16 8 (free 4) (number 0 0)) 9 0 (omega arith) [] tt;
+  extended-pair = λ q r. pairs-filled q r .1;
 }

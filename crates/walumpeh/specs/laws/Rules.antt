@@ -7,8 +7,8 @@ use native.Mathlib.Decide.{decLe}
 use lib.Dec.{leb, eqb, eqb→eq, leb→le}
 use Rattle.words.specs.laws.Cases.{every-at}
 use Rattle.operators.specs.declared.table.Rule.{Rule}
-use Rattle.operators.specs.declared.table.Rule.the-variants.{Free, One, Both, Equal, Choice, Sum, Part}
-use Rattle.operators.specs.Table.{kinds, kindOf, shape, shapeOf, RuleMet}
+use Rattle.operators.specs.declared.table.Rule.the-variants.{Free, One, Both, Equal, Choice, Sum, Part, Longer}
+use Rattle.operators.specs.Table.{kinds, kindCount, kindOf, shape, shapeOf, RuleMet}
 use Rattle.operators.specs.laws.Table.{or-right}
 use Rattle.operators.specs.laws.Meaning.{takes, takes-is}
 use Rattle.picking.specs.declared.spot.Three.{Three}
@@ -24,6 +24,7 @@ fieldsOf Equal = 2
 fieldsOf Choice = 3
 fieldsOf Sum = 2
 fieldsOf Part = 2
+fieldsOf Longer = 1
 
 fields-is : (k : ℕ) → fieldsOf (shapeOf k .rule) ≡ shapeOf k .fields
 fields-is k = eqb→eq _ _ (every-kind (λ o. eqb (fieldsOf (shape o .rule)) (shape o .fields)) kinds tt k)
@@ -52,6 +53,7 @@ rule-else Equal w b c x y e f h = (sym (e 0 (omega arith)) ∙ h .0 ∙ e 1 (ome
 rule-else Choice w b c x y e f h = (sym (e 0 (omega arith)) ∙ h .0, sym (e 1 (omega arith)) ∙ h .1, sym (e 2 (omega arith)) ∙ h .2)
 rule-else Sum w b c x y e f h = omega (arith, e 0 (omega arith), e 1 (omega arith))
 rule-else Part w b c x y e f h = omega (arith, e 0 (omega arith), f (omega arith))
+rule-else Longer w b c x y e f h = omega (arith, e 0 (omega arith))
 
 pub rule-of :
     (k w b c : ℕ) (x y : Three)
@@ -64,15 +66,15 @@ rule-of k w b c x y e f h =
     (λ l. f (rw (takes-is (kindOf k), fields-is k) at l)) h
 
 -- an extract alone has a lowest bit, which is one of its operand's
-extract-only : (k : ℕ) → k < 14 → shapeOf k .operands < shapeOf k .fields → k ≡ 13
+extract-only : (k : ℕ) → k < kindCount → shapeOf k .operands < shapeOf k .fields → k ≡ 13
 extract-only k l h =
     eqb→eq k 13
     (or-right (leb (shapeOf k .fields) (shapeOf k .operands)) (eqb k 13)
-    (every-at 14 (λ x. leb (shapeOf x .fields) (shapeOf x .operands) || eqb x 13) tt k l) (λ t. let m : shapeOf k .fields ≤ shapeOf k .operands = leb→le (shapeOf k .fields) (shapeOf k .operands) t in omega arith))
+    (every-at kindCount (λ x. leb (shapeOf x .fields) (shapeOf x .operands) || eqb x 13) tt k l) (λ t. let m : shapeOf k .fields ≤ shapeOf k .operands = leb→le (shapeOf k .fields) (shapeOf k .operands) t in omega arith))
 
 pub low-law :
     (k w wa wb wc b : ℕ)
-    → k < 14
+    → k < kindCount
     → wa ≤ 64
     → RuleMet (shapeOf k .rule) w wa wb wc b
     → (shapeOf k .fields ≤ shapeOf k .operands → b ≡ 0)

@@ -2,11 +2,12 @@
 use borrow.Author.Needs.{needs}
 use mathlib.Core.Path.{ap₂}
 use Prim.Native.Nat.{_+_, _*_}
+use native.Mathlib.Nat.{le-of-lt}
 use native.Mathlib.Omega.{arith}
 use Rattle.operators.specs.Fixed.{pair}
 use Rattle.operators.specs.laws.Sound.{lo-lt}
 use Rattle.operators.proofs.Pairs.{low-fits, low-is}
-use Rattle.operators.proofs.Parts.{join-asks, part-asks, last-kind}
+use Rattle.operators.proofs.Parts.{join-asks, part-asks, none-left}
 use Rattle.operators.proofs.fixed.pair_of.Statement.{statement}
 use Rattle.operators.proofs.fixed.pair_of.Tie as tie
 
@@ -59,10 +60,29 @@ join-requires-2 : tie.Need-join-requires-2
 join-requires-2 c κs = join-asks _ _ _ _ _ (c .before .before .pre .ready .wide) (rw (c .before .match .keys11) at (c .before .before .pre .ready .fit))
 
 part-requires : tie.Need-part-requires
-part-requires c κs = (search needs, search needs, part-asks _ _ _ _ (search needs) (rw (last-kind (c .before .pre .ready) (c .match .rest)) at (c .before .pre .ready .fit)))
+part-requires c κs = (search needs, search needs, part-asks _ _ _ _ (search needs) (rw (c .match .keys12) at (c .before .pre .ready .fit)))
 
 part-requires-2 : tie.Need-part-requires-2
-part-requires-2 c κs = (search needs, search needs, part-asks _ _ _ _ (search needs) (rw (last-kind (c .before .before .pre .ready) (c .before .match .rest)) at (c .before .before .pre .ready .fit)))
+part-requires-2 c κs = (search needs, search needs, part-asks _ _ _ _ (search needs) (rw (c .before .match .keys12) at (c .before .before .pre .ready .fit)))
+
+slt-pair-requires : tie.Need-slt-pair-requires
+slt-pair-requires c κs =
+    let f = rw (c .match .keys13) at (c .before .pre .ready .fit) in
+    let o = rw (c .match .keys13) at (c .before .pre .ordered) in
+    (f .0, f .1, record { ordered = o .a (omega arith); short = f .2 }, record { ordered = o .b (omega arith); short = f .3 })
+
+ashr-pair-requires : tie.Need-ashr-pair-requires
+ashr-pair-requires c κs =
+    let r = c .before .pre .ready in
+    let o = rw (c .match .keys14) at (c .before .pre .ordered) in
+    (r .some, r .wide, record { ordered = o .a (omega arith); short = (rw (c .match .keys14) at (r .fit)) .0 })
+
+sext-pair-requires : tie.Need-sext-pair-requires
+sext-pair-requires c κs =
+    let r = c .before .pre .ready in
+    let f = rw (c .match .keys15) at (r .fit) in
+    let o = rw (c .match .keys15) at (c .before .pre .ordered) in
+    (f .0, le-of-lt (f .1), r .wide, record { ordered = o .a (omega arith); short = f .2 })
 
 returns : tie.Need-returns
 returns c = rw (c .before .before .match .keys1) (ap₂ pair (c .before .flip .ensures) (c .flip2 .ensures))
@@ -105,8 +125,20 @@ returns-11 c = rw (c .before .before .match .keys11) (ap₂ pair (c .before .joi
 
 returns-12 : tie.Need-returns-12
 returns-12 c =
-    rw (last-kind (c .before .before .before .pre .ready) (c .before .before .match .rest))
+    rw (c .before .before .match .keys12)
     (ap₂ pair (c .before .part .ensures) (c .part2 .ensures))
+
+returns-13 : tie.Need-returns-13
+returns-13 c = rw (c .before .match .keys13) (c .slt-pair .ensures)
+
+returns-14 : tie.Need-returns-14
+returns-14 c = rw (c .before .match .keys14) (c .ashr-pair .ensures)
+
+returns-15 : tie.Need-returns-15
+returns-15 c = rw (c .before .match .keys15) (c .sext-pair .ensures)
+
+returns-16 : tie.Need-returns-16
+returns-16 c = absurd (none-left (c .before .pre .ready) (c .match .rest))
 
 pub pair-of-spec : {M : Type 1} → statement M
 pair-of-spec =
@@ -128,6 +160,9 @@ pair-of-spec =
     join-requires-2
     part-requires
     part-requires-2
+    slt-pair-requires
+    ashr-pair-requires
+    sext-pair-requires
     returns
     returns-2
     returns-3
@@ -139,4 +174,8 @@ pair-of-spec =
     returns-9
     returns-10
     returns-11
-    returns-12)
+    returns-12
+    returns-13
+    returns-14
+    returns-15
+    returns-16)

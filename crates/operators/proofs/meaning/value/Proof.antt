@@ -1,8 +1,9 @@
 -- Each arm of the match is the meaning of its kind; what the parts ask comes from the width rule.
 use borrow.Author.Needs.{needs}
+use native.Mathlib.Nat.{le-of-lt}
 use native.Mathlib.Omega.{arith}
 use lib.Dec.{eqb, ltb}
-use Rattle.operators.proofs.Parts.{flagged, chosen, rest, join-asks, part-asks, last-kind}
+use Rattle.operators.proofs.Parts.{flagged, chosen, rest, join-asks, part-asks, none-left}
 use Rattle.operators.proofs.meaning.value.Statement.{statement}
 use Rattle.operators.proofs.meaning.value.Tie as tie
 
@@ -104,7 +105,41 @@ read-requires-23 : tie.Need-read-requires-23
 read-requires-23 c κs = search needs
 
 part-requires : tie.Need-part-requires
-part-requires c κs = (search needs, search needs, part-asks _ _ _ _ (search needs) (rw (last-kind (c .before .before .before .pre .ready) (c .before .match .rest)) at (c .before .before .before .pre .ready .fit)))
+part-requires c κs = (search needs, search needs, part-asks _ _ _ _ (search needs) (rw (c .before .match .keys12) at (c .before .before .before .pre .ready .fit)))
+
+read-requires-24 : tie.Need-read-requires-24
+read-requires-24 c κs = search needs
+
+read-requires-25 : tie.Need-read-requires-25
+read-requires-25 c κs = c .before .before .before .pre .second (rw (c .before .match .keys13) (omega arith))
+
+below-signed-requires : tie.Need-below-signed-requires
+below-signed-requires c κs =
+    let m = c .before .before in
+    let f = rw (m .match .keys13) at (m .before .before .pre .ready .fit) in
+    (f .0, f .1, rw (c .before .read24 .ensures) (f .2), rw (c .read25 .ensures) (f .3))
+
+read-requires-26 : tie.Need-read-requires-26
+read-requires-26 c κs = search needs
+
+read-requires-27 : tie.Need-read-requires-27
+read-requires-27 c κs = c .before .before .before .pre .second (rw (c .before .match .keys14) (omega arith))
+
+right-signed-requires : tie.Need-right-signed-requires
+right-signed-requires c κs =
+    let m = c .before .before in
+    let r = m .before .before .pre .ready in
+    (r .some, r .wide, rw (c .before .read26 .ensures) ((rw (m .match .keys14) at (r .fit)) .0))
+
+read-requires-28 : tie.Need-read-requires-28
+read-requires-28 c κs = search needs
+
+extend-requires : tie.Need-extend-requires
+extend-requires c κs =
+    let m = c .before in
+    let r = m .before .before .pre .ready in
+    let f = rw (m .match .keys15) at (r .fit) in
+    (f .0, le-of-lt (f .1), r .wide, rw (c .read28 .ensures) (f .2))
 
 returns : tie.Need-returns
 returns c = rw (c .before .before .match .keys1, ← c .before .read .ensures) (c .flip .ensures)
@@ -144,7 +179,19 @@ returns-12 c = let f = rw (c .before .before .before .before .match .keys11) at 
     rw (c .before .before .before .before .match .keys11, ← rest _ _ _ (f .0), ← c .before .before .before .read21 .ensures, ← c .before .before .read22 .ensures) (c .join .ensures)
 
 returns-13 : tie.Need-returns-13
-returns-13 c = rw (last-kind (c .before .before .before .before .pre .ready) (c .before .before .match .rest), ← c .before .read23 .ensures) (c .part .ensures)
+returns-13 c = rw (c .before .before .match .keys12, ← c .before .read23 .ensures) (c .part .ensures)
+
+returns-14 : tie.Need-returns-14
+returns-14 c = rw (c .before .before .before .match .keys13, ← c .before .before .read24 .ensures, ← c .before .read25 .ensures) (c .below-signed .ensures)
+
+returns-15 : tie.Need-returns-15
+returns-15 c = rw (c .before .before .before .match .keys14, ← c .before .before .read26 .ensures, ← c .before .read27 .ensures) (c .right-signed .ensures)
+
+returns-16 : tie.Need-returns-16
+returns-16 c = rw (c .before .before .match .keys15, ← c .before .read28 .ensures) (c .extend .ensures)
+
+returns-17 : tie.Need-returns-17
+returns-17 c = absurd (none-left (c .before .before .pre .ready) (c .match .rest))
 
 pub value-spec : {M : Type 1} → statement M
 value-spec =
@@ -183,6 +230,14 @@ value-spec =
     join-requires
     read-requires-23
     part-requires
+    read-requires-24
+    read-requires-25
+    below-signed-requires
+    read-requires-26
+    read-requires-27
+    right-signed-requires
+    read-requires-28
+    extend-requires
     returns
     returns-2
     returns-3
@@ -195,4 +250,8 @@ value-spec =
     returns-10
     returns-11
     returns-12
-    returns-13)
+    returns-13
+    returns-14
+    returns-15
+    returns-16
+    returns-17)

@@ -31,6 +31,9 @@ enum-told-7 c = search needs
 add-result-2 : tie.Need-add-result-2
 add-result-2 c = search needs
 
+enum-told-8 : tie.Need-enum-told-8
+enum-told-8 c = search needs
+
 returns : tie.Need-returns
 unfolding ruleHolds
 returns c = rw (c .enum-told .given .1)
@@ -59,6 +62,10 @@ returns-7 : tie.Need-returns-7
 unfolding ruleHolds
 returns-7 c = rw (c .enum-told7 .given .1)
 
+returns-8 : tie.Need-returns-8
+unfolding ruleHolds
+returns-8 c = rw (c .enum-told8 .given .1)
+
 pub rule-holds-spec : {M : Type 1} → statement M
 rule-holds-spec =
     tie.close
@@ -72,10 +79,12 @@ rule-holds-spec =
     add-result
     enum-told-7
     add-result-2
+    enum-told-8
     returns
     returns-2
     returns-3
     returns-4
     returns-5
     returns-6
-    returns-7)
+    returns-7
+    returns-8)

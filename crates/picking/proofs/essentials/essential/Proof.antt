@@ -1,9 +1,10 @@
 -- By how many positions the kind has.
 use mathlib.Core.Path.{_≡_}
+use mathlib.Core.Logic.{⊎-elim}
 use native.Mathlib.Omega.{arith}
 use borrow.Author.Needs.{needs}
 use Rattle.picking.proofs.EssentialLaws.{alone-one}
-use Rattle.picking.proofs.KindLaws.{two-left}
+use Rattle.picking.proofs.KindLaws.{no-essential-left, two-told, two-left}
 use Rattle.picking.proofs.SpotLaws.{place}
 use Rattle.picking.proofs.essentials.essential.Statement.{statement}
 use Rattle.picking.proofs.essentials.essential.Tie as tie
@@ -15,7 +16,7 @@ essential-of-if-requires : tie.Need-essential-of-if-requires
 essential-of-if-requires c κs = (c .before .pre .fair, c .match .keys2, place (c .before .pre) (c .match .keys2))
 
 essential-of-two-requires : tie.Need-essential-of-two-requires
-essential-of-two-requires c κs = let s = c .before in (s .pre, two-left _ (s .pre .fair .kind-from) (s .pre .fair .kind-below) (c .match .rest))
+essential-of-two-requires c κs = (c .before .pre, ⊎-elim (λ o. two-told (o .keys3)) (λ p. two-left _ (p .1 .left) (p .2 .taken) (p .0 .rest)) (c .match .came))
 
 returns : tie.Need-returns
 returns c =
@@ -29,6 +30,12 @@ returns-2 c = search needs
 returns-3 : tie.Need-returns-3
 returns-3 c = search needs
 
+returns-4 : tie.Need-returns-4
+returns-4 c = let m = c .before .before in absurd (no-essential-left (m .before .pre .fair) (c .if2 .left) (m .match .rest))
+
+returns-5 : tie.Need-returns-5
+returns-5 c = search needs
+
 pub essential-spec : {M : Type 1} → statement M
 essential-spec =
     tie.close
@@ -38,4 +45,6 @@ essential-spec =
     essential-of-two-requires
     returns
     returns-2
-    returns-3)
+    returns-3
+    returns-4
+    returns-5)

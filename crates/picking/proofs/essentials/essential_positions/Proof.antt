@@ -1,5 +1,6 @@
 -- By how many positions the kind has, the answers for each.
 use mathlib.Core.Path.{_≡_}
+use mathlib.Core.Logic.{⊎-elim}
 use Prim.Native.Nat.{ℕ, _^_, _<_}
 use native.Mathlib.Omega.{arith}
 use borrow.Author.Needs.{needs}
@@ -7,17 +8,14 @@ use Rattle.picking.specs.declared.spot.Spot.{Spot}
 use Rattle.picking.specs.Spot.{positions, Fair, Asked}
 use Rattle.picking.specs.laws.Marks.{marks-one, marks-two, marks-three}
 use Rattle.picking.proofs.EssentialLaws.{alone-one}
-use Rattle.picking.proofs.KindLaws.{Without, essentialArms, two-left}
+use Rattle.picking.proofs.KindLaws.{no-essential-left, two-told, two-left}
 use Rattle.picking.proofs.SpotLaws.{count-at}
 use Rattle.picking.proofs.essentials.essential_positions.Statement.{statement}
 use Rattle.picking.proofs.essentials.essential_positions.Tie as tie
 
--- a kind that is left has two positions, each of which may be asked
-two-asked :
-    {S : Spot} {t : ℕ} → Fair S → t < 2 ^ S .width → Without essentialArms (S .kind) → (i : ℕ) → i < 2 → Asked S i t × (positions S ≡ 2)
-two-asked {S} F h w i l =
-    let two = two-left (S .kind) (F .kind-from) (F .kind-below) w in
-    (record { fair = F; position = rw two l; target = h }, two)
+-- a kind of two positions, each of which may be asked
+two-asked : {S : Spot} {t : ℕ} → Fair S → t < 2 ^ S .width → positions S ≡ 2 → (i : ℕ) → i < 2 → Asked S i t × (positions S ≡ 2)
+two-asked F h two i l = (record { fair = F; position = rw two l; target = h }, two)
 
 essential-alone-requires : tie.Need-essential-alone-requires
 essential-alone-requires c κs = search needs
@@ -38,10 +36,14 @@ marks-requires-2 : tie.Need-marks-requires-2
 marks-requires-2 c κs = search needs
 
 essential-of-two-requires : tie.Need-essential-of-two-requires
-essential-of-two-requires c κs = two-asked (c .before .pre .0) (c .before .pre .1) (c .match .rest) 0 (omega arith)
+essential-of-two-requires c κs =
+    let s = c .before in
+    two-asked (s .pre .0) (s .pre .1) (⊎-elim (λ o. two-told (o .keys3)) (λ p. two-left _ (p .1 .left) (p .2 .taken) (p .0 .rest)) (c .match .came)) 0 (omega arith)
 
 essential-of-two-requires-2 : tie.Need-essential-of-two-requires-2
-essential-of-two-requires-2 c κs = let s = c .before in two-asked (s .before .pre .0) (s .before .pre .1) (s .match .rest) 1 (omega arith)
+essential-of-two-requires-2 c κs =
+    let m = c .before in
+    two-asked (m .before .pre .0) (m .before .pre .1) (⊎-elim (λ o. two-told (o .keys3)) (λ p. two-left _ (p .1 .left) (p .2 .taken) (p .0 .rest)) (m .match .came)) 1 (omega arith)
 
 marks-requires-3 : tie.Need-marks-requires-3
 marks-requires-3 c κs = search needs
@@ -62,11 +64,17 @@ returns-2 c =
     (b .essential-branch2 .ensures))
 
 returns-3 : tie.Need-returns-3
-returns-3 c =
+returns-3 c = let s = c .before .before in absurd (omega (arith, c .if1 .taken, s .pre .0 .kind-from))
+
+returns-4 : tie.Need-returns-4
+returns-4 c = let m = c .before .before in absurd (no-essential-left (m .before .pre .0) (c .if2 .left) (m .match .rest))
+
+returns-5 : tie.Need-returns-5
+returns-5 c =
     let b = c .before in
     let a = b .before in
-    let s = a .before .before in
-    rw (c .marks3 .ensures, two-asked (s .pre .0) (s .pre .1) (a .before .match .rest) 0 (omega arith) .1)
+    let two = ⊎-elim (λ o. two-told (o .keys3)) (λ p. two-left _ (p .1 .left) (p .2 .taken) (p .0 .rest)) (a .before .match .came) in
+    rw (c .marks3 .ensures, two)
     (marks-two (a .essential-of-two .result) (b .essential-of-two2 .result) (a .essential-of-two .ensures) (b .essential-of-two2 .ensures))
 
 pub essential-positions-spec : {M : Type 1} → statement M
@@ -84,4 +92,6 @@ essential-positions-spec =
     marks-requires-3
     returns
     returns-2
-    returns-3)
+    returns-3
+    returns-4
+    returns-5)

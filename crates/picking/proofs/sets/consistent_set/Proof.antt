@@ -1,13 +1,14 @@
 -- Arm by arm the operator's set, brought to the spot.
 use mathlib.Core.Path.{refl}
-use native.Mathlib.Nat.{le-of-eq}
+use mathlib.Core.Logic.{⊎-elim}
+use native.Mathlib.Nat.{le-refl, le-of-eq}
 use native.Mathlib.Omega.{arith}
 use lib.Bits.{and-comm}
 use borrow.Author.Needs.{needs}
 use Rattle.picking.proofs.ArithmeticLaws.{product-comm}
 use Rattle.picking.proofs.BoxLaws.{solves-all}
-use Rattle.picking.proofs.KindLaws.{makeup-left}
-use Rattle.picking.proofs.SpotLaws.{rule-at, slot-at, wide-at, place, count-at, flag-target, joined-at, extract-at, arm-one, reach-one, both-reach, equal-reach, side-reach, reach-any, alike-some}
+use Rattle.picking.proofs.KindLaws.{no-consistent-left, makeup-told, makeup-left}
+use Rattle.picking.proofs.SpotLaws.{rule-at, slot-at, wide-at, place, count-at, flag-target, joined-at, extract-at, sext-at, arm-one, reach-one, both-reach, equal-reach, side-reach, reach-any, alike-some}
 use Rattle.picking.proofs.sets.consistent_set.Statement.{statement}
 use Rattle.picking.proofs.sets.consistent_set.Tie as tie
 
@@ -49,6 +50,27 @@ consistent-concat-requires c κs = let m = c .before .before in joined-at (m .be
 inverse-extract-requires : tie.Need-inverse-extract-requires
 inverse-extract-requires c κs = extract-at (c .before .pre) (c .match .keys8)
 
+cast-consistent-slt : tie.Need-cast-consistent-slt
+cast-consistent-slt c = record { fits = omega (arith, slot-at (c .before .before .pre .fair) (c .before .match .keys9) 0 (omega arith) .wide) }
+
+consistent-slt-requires : tie.Need-consistent-slt-requires
+consistent-slt-requires c κs =
+    let s = c .before .before in
+    let k = c .before .match .keys9 in
+    let slot = slot-at (s .pre .fair) k 0 (omega arith) in
+    (place (s .pre) k, slot .some, slot .wide, flag-target (s .pre) k refl)
+
+consistent-ashr-requires : tie.Need-consistent-ashr-requires
+consistent-ashr-requires c κs =
+    let p = c .before .pre in
+    (place p (c .match .keys10), record { some = p .fair .some; wide = p .fair .wide; fits = p .target })
+
+cast-inverse-sext : tie.Need-cast-inverse-sext
+cast-inverse-sext c = record { fits = omega (arith, slot-at (c .before .before .pre .fair) (c .before .match .keys11) 0 (omega arith) .wide) }
+
+inverse-sext-requires : tie.Need-inverse-sext-requires
+inverse-sext-requires c κs = sext-at (c .before .before .pre) (c .before .match .keys11)
+
 all-requires : tie.Need-all-requires
 all-requires c κs = search needs
 
@@ -85,9 +107,30 @@ returns-8 c =
     reach-one (s .pre) (count-at (s .pre .fair) k) (arm-one (s .pre) k refl (slot-at (s .pre .fair) k 0 (omega arith) .wide) (c .inverse-extract .ensures))
 
 returns-9 : tie.Need-returns-9
-returns-9 c =
-    let s = c .before .before in
-    solves-all (wide-at (s .pre)) (c .all .ensures) (λ v l. reach-any (s .pre) v l (makeup-left _ (s .pre .fair .kind-from) (s .pre .fair .kind-below) (c .before .match .rest)))
+returns-9 c = let m = c .before .before in equal-reach (m .before .pre) (m .match .keys9) refl (c .consistent-slt .ensures)
+
+returns-10 : tie.Need-returns-10
+returns-10 c = both-reach (c .before .before .pre) (c .before .match .keys10) refl (c .consistent-ashr .ensures)
+
+returns-11 : tie.Need-returns-11
+returns-11 c =
+    let m = c .before .before in
+    let s = m .before in
+    let k = m .match .keys11 in
+    reach-one (s .pre) (count-at (s .pre .fair) k) (arm-one (s .pre) k refl (le-refl _) (c .inverse-sext .ensures))
+
+returns-12 : tie.Need-returns-12
+returns-12 c = let s = c .before .before in absurd (omega (arith, c .if1 .taken, s .pre .fair .kind-from))
+
+returns-13 : tie.Need-returns-13
+returns-13 c = let m = c .before .before in absurd (no-consistent-left (m .before .pre .fair) (c .if2 .left) (m .match .rest))
+
+returns-14 : tie.Need-returns-14
+returns-14 c =
+    let m = c .before in
+    let s = m .before in
+    solves-all (wide-at (s .pre)) (c .all .ensures)
+    (λ v l. reach-any (s .pre) v l (⊎-elim (λ o. makeup-told (o .keys12)) (λ p. makeup-left _ (p .1 .left) (p .2 .taken) (p .0 .rest)) (m .match .came)))
 
 pub consistent-set-spec : {M : Type 1} → statement M
 consistent-set-spec =
@@ -104,6 +147,11 @@ consistent-set-spec =
     cast-consistent-concat-2
     consistent-concat-requires
     inverse-extract-requires
+    cast-consistent-slt
+    consistent-slt-requires
+    consistent-ashr-requires
+    cast-inverse-sext
+    inverse-sext-requires
     all-requires
     returns
     returns-2
@@ -113,4 +161,9 @@ consistent-set-spec =
     returns-6
     returns-7
     returns-8
-    returns-9)
+    returns-9
+    returns-10
+    returns-11
+    returns-12
+    returns-13
+    returns-14)

@@ -1,13 +1,13 @@
 -- Arm by arm the operator's set, brought to the spot.
 use mathlib.Core.Path.{refl}
-use native.Mathlib.Nat.{le-of-eq}
+use native.Mathlib.Nat.{le-refl, le-of-eq}
 use native.Mathlib.Omega.{arith}
 use lib.Bits.{and-comm, xor-comm}
 use borrow.Author.Needs.{needs}
 use Rattle.picking.proofs.ArithmeticLaws.{sum-comm, product-comm}
 use Rattle.picking.proofs.ComparisonLaws.{equal-comm}
-use Rattle.picking.proofs.KindLaws.{extract-left}
-use Rattle.picking.proofs.SpotLaws.{rule-at, slot-at, wide-at, place, both-lt, flag-target, joined-at, extract-at, arm, arm-one, wide-arm, both-arm, side-lt, side-arm, alike-by}
+use Rattle.picking.proofs.KindLaws.{no-inverse-left}
+use Rattle.picking.proofs.SpotLaws.{rule-at, slot-at, wide-at, place, both-lt, flag-target, joined-at, extract-at, sext-at, arm, arm-one, wide-arm, both-arm, equal-lt, equal-arm, side-lt, side-arm, alike-by}
 use Rattle.picking.proofs.sets.inverse_set.Statement.{statement}
 use Rattle.picking.proofs.sets.inverse_set.Tie as tie
 
@@ -71,7 +71,36 @@ inverse-concat-requires c κs =
 inverse-extract-requires : tie.Need-inverse-extract-requires
 inverse-extract-requires c κs =
     let s = c .before .before .before in
-    extract-at (s .pre) (extract-left _ (s .pre .fair .kind-from) (s .pre .fair .kind-below) (c .match .rest))
+    extract-at (s .pre) (c .match .keys12)
+
+cast-inverse-slt : tie.Need-cast-inverse-slt
+cast-inverse-slt c =
+    let m = c .before in
+    let s = m .before .before .before in
+    record { fits = omega (arith, slot-at (s .pre .fair) (m .match .keys13) 0 (omega arith) .wide) }
+
+inverse-slt-requires : tie.Need-inverse-slt-requires
+inverse-slt-requires c κs =
+    let m = c .before in
+    let s = m .before .before .before in
+    let k = m .match .keys13 in
+    let slot = slot-at (s .pre .fair) k 0 (omega arith) in
+    (place (s .pre) k, record { some = slot .some; wide = slot .wide; fits = equal-lt (s .pre) k refl (m .before .other .ensures) }, flag-target (s .pre) k refl)
+
+inverse-ashr-requires : tie.Need-inverse-ashr-requires
+inverse-ashr-requires c κs =
+    let s = c .before .before .before in
+    let k = c .match .keys14 in
+    (place (s .pre) k, record { some = s .pre .fair .some; wide = s .pre .fair .wide; fits = both-lt (s .pre) k refl (c .before .other .ensures) }, s .pre .target)
+
+cast-inverse-sext : tie.Need-cast-inverse-sext
+cast-inverse-sext c =
+    let m = c .before in
+    let s = m .before .before .before in
+    record { fits = omega (arith, slot-at (s .pre .fair) (m .match .keys15) 0 (omega arith) .wide) }
+
+inverse-sext-requires : tie.Need-inverse-sext-requires
+inverse-sext-requires c κs = let m = c .before in sext-at (m .before .before .before .pre) (m .match .keys15)
 
 returns : tie.Need-returns
 returns c =
@@ -133,8 +162,28 @@ returns-11 c =
 returns-12 : tie.Need-returns-12
 returns-12 c =
     let s = c .before .before .before .before in
-    let k = extract-left _ (s .pre .fair .kind-from) (s .pre .fair .kind-below) (c .before .match .rest) in
+    let k = c .before .match .keys12 in
     arm-one (s .pre) k refl (slot-at (s .pre .fair) k 0 (omega arith) .wide) (c .inverse-extract .ensures)
+
+returns-13 : tie.Need-returns-13
+returns-13 c =
+    let m = c .before .before in
+    let s = m .before .before .before in
+    equal-arm (s .pre) (m .match .keys13) refl (m .before .other .ensures) (c .inverse-slt .ensures)
+
+returns-14 : tie.Need-returns-14
+returns-14 c =
+    let s = c .before .before .before .before in
+    both-arm (s .pre) (c .before .match .keys14) refl (c .before .before .other .ensures) (c .inverse-ashr .ensures)
+
+returns-15 : tie.Need-returns-15
+returns-15 c =
+    let m = c .before .before in
+    let s = m .before .before .before in
+    arm-one (s .pre) (m .match .keys15) refl (le-refl _) (c .inverse-sext .ensures)
+
+returns-16 : tie.Need-returns-16
+returns-16 c = absurd (no-inverse-left (c .before .before .before .pre .fair) (c .match .rest))
 
 pub inverse-set-spec : {M : Type 1} → statement M
 inverse-set-spec =
@@ -155,6 +204,11 @@ inverse-set-spec =
     cast-inverse-concat-2
     inverse-concat-requires
     inverse-extract-requires
+    cast-inverse-slt
+    inverse-slt-requires
+    inverse-ashr-requires
+    cast-inverse-sext
+    inverse-sext-requires
     returns
     returns-2
     returns-3
@@ -166,4 +220,8 @@ inverse-set-spec =
     returns-9
     returns-10
     returns-11
-    returns-12)
+    returns-12
+    returns-13
+    returns-14
+    returns-15
+    returns-16)

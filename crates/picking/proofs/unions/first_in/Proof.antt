@@ -23,8 +23,8 @@ enum-known-set-3 : tie.Need-enum-known-set-3
 enum-known-set-3 c = search needs
 
 -- src/unions.rt:104:34
-first-shifted-requires : tie.Need-first-shifted-requires
-first-shifted-requires c κs = rw (c .before .set3 .given .1) at (c .before .before .before .pre .0)
+first-several-requires : tie.Need-first-several-requires
+first-several-requires c κs = rw (c .before .set3 .given .1) at (c .before .before .before .pre .0)
 
 -- src/unions.rt:97:1
 returns : tie.Need-returns
@@ -36,7 +36,7 @@ returns-2 c = rw (c .before .before .set2 .given .1) (c .first-low .ensures)
 
 -- src/unions.rt:97:1
 returns-3 : tie.Need-returns-3
-returns-3 c = rw (c .before .before .set3 .given .1) (c .first-shifted .ensures)
+returns-3 c = rw (c .before .before .set3 .given .1) (c .first-several .ensures)
 
 pub first-in-spec : {M : Type 1} → statement M
 first-in-spec =
@@ -47,7 +47,7 @@ first-in-spec =
     enum-known-set-2
     first-low-requires
     enum-known-set-3
-    first-shifted-requires
+    first-several-requires
     returns
     returns-2
     returns-3)

@@ -3,8 +3,8 @@ use borrow.Author.Needs.{needs}
 use mathlib.Core.Path.{_∙_}
 use native.Mathlib.Omega.{arith}
 use Rattle.operators.proofs.Parts.{ones-cut}
-use Rattle.operators.proofs.fixed.ones.Statement.{statement}
-use Rattle.operators.proofs.fixed.ones.Tie as tie
+use Rattle.operators.proofs.meaning.ones.Statement.{statement}
+use Rattle.operators.proofs.meaning.ones.Tie as tie
 
 cut-requires : tie.Need-cut-requires
 cut-requires c κs = search needs

@@ -6,13 +6,13 @@ use borrow.Author.Needs.{needs}
 use Rattle.words.specs.Pick.{FirstFrom}
 use Rattle.picking.specs.inner.Boxes.{In, met, ChosenOf}
 use Rattle.picking.specs.declared.boxes.Box.{Box}
-use Rattle.picking.specs.declared.unions.Union.the-variants.{Shifted}
+use Rattle.picking.specs.declared.unions.Union.the-variants.{Several}
 use Rattle.picking.proofs.UnionLaws.{none-yet, one-more}
-use Rattle.picking.proofs.unions.first_shifted.Statement.{statement}
-use Rattle.picking.proofs.unions.first_shifted.Tie as tie
+use Rattle.picking.proofs.unions.first_several.Statement.{statement}
+use Rattle.picking.proofs.unions.first_several.Tie as tie
 
 abbrev Inv-loop : tie.InvT-loop
-Inv-loop by n lo hi p best₀ j₀ best j = (j ≤ n) × FirstFrom (ChosenOf (Shifted by j) lo hi) p best
+Inv-loop by n lo hi p best₀ j₀ best j = (j ≤ n) × FirstFrom (ChosenOf (Several by j) lo hi) p best
 
 abbrev μ-loop : tie.MeasureT-loop
 μ-loop by n lo hi p best₀ j₀ best j = n - j
@@ -56,10 +56,10 @@ returns c =
     let l = c .before in
     let s = l .before in
     let e : l .loop .j ≡ s .args .n = omega (arith, c .loop-test .left) in
-    subst (λ (n : ℕ). FirstFrom (ChosenOf (Shifted (s .args .by) n) (s .args .lo) (s .args .hi)) (s .args .p) (l .loop .best)) e (l .loop .inv .1)
+    subst (λ (n : ℕ). FirstFrom (ChosenOf (Several (s .args .by) n) (s .args .lo) (s .args .hi)) (s .args .p) (l .loop .best)) e (l .loop .inv .1)
 
-pub first-shifted-spec : {M : Type 1} → statement M
-first-shifted-spec =
+pub first-several-spec : {M : Type 1} → statement M
+first-several-spec =
     tie.close
     (tie.spec
     Inv-loop
