@@ -1,5 +1,5 @@
 // The operators of documents 01 and 02: the table of kinds, what each operator means, and the fixed bits of one node.
-// Callers write operators::value, operators::Pair: the modules are for the reader.
+// Callers write operators::sum, operators::Pair: the modules are for the reader.
 mod fixed;
 mod meaning;
 mod signed;
@@ -9,10 +9,16 @@ pub use fixed::Pair;
 pub use fixed::pair_of;
 pub use meaning::Op;
 pub use meaning::flip;
+pub use meaning::join;
+pub use meaning::left;
 pub use meaning::part;
-pub use meaning::value;
+pub use meaning::product;
+pub use meaning::right;
+pub use meaning::sum;
+pub use signed::below_signed;
 pub use signed::extend;
 pub use signed::half;
+pub use signed::right_signed;
 pub use table::KINDS;
 pub use table::Rule;
 pub use table::Shape;

@@ -32,7 +32,7 @@ pub(crate) fn less_signed(a: u64, b: u64, w: u32) -> bool
 }
 
 // The same as a bit.
-pub(crate) fn below_signed(a: u64, b: u64, w: u32) -> u64
+pub fn below_signed(a: u64, b: u64, w: u32) -> u64
     requires { ⌜ (1 ≤ w) × (w ≤ 64) × (a < 2 ^ w) × (b < 2 ^ w) ⌝ }
     ensures { λ r. ⌜ r ≡ flag (signedLess w a b) ⌝ }
 {
@@ -40,7 +40,7 @@ pub(crate) fn below_signed(a: u64, b: u64, w: u32) -> u64
 }
 
 // a shifted right by any amount, its sign filling.
-pub(crate) fn right_signed(a: u64, b: u64, w: u32) -> u64
+pub fn right_signed(a: u64, b: u64, w: u32) -> u64
     requires { ⌜ (1 ≤ w) × (w ≤ 64) × (a < 2 ^ w) ⌝ }
     ensures { λ r. ⌜ r ≡ signedShift w a b ⌝ }
 {

@@ -12,7 +12,7 @@ use Rattle.operators.specs.Table.{kindCount, kinds, kindOf, shape, shapeOf}
 use Rattle.operators.specs.Meaning.{meaning}
 use Rattle.operators.specs.laws.Meaning.{fit-used, meaning-known}
 use Rattle.operators.specs.Fixed.{pair}
-use Rattle.operators.specs.inner.Ready.{Standing, Ternary}
+use Rattle.operators.specs.inner.Ready.{Ternary}
 use Rattle.problem.specs.declared.layout.Node.{Node}
 use Rattle.picking.specs.declared.spot.Three.{Three}
 use Rattle.picking.specs.Spot.{at}
@@ -28,7 +28,7 @@ use Rattle.evaluation.specs.laws.Values.{length-evalUp, evalUp-lt}
 use Rattle.evaluation.specs.laws.Nodes.{value-own, value-constant, value-operator, pair-own, pair-operator, pairIn}
 use Rattle.evaluation.specs.laws.Pairs.{length-fillUp, fillUp-ternary}
 use Rattle.evaluation.specs.laws.Spot.{spot-pairs-ready}
-use Rattle.evaluation.specs.inner.Evaluation.{ids, OperandsBelow, heldIn, widthsIn, operatorIn, standingOp, Evaluable, Assigned, pairsOf, derives, Narrowed, Fillable, Filled}
+use Rattle.evaluation.specs.inner.Evaluation.{ids, OperandsBelow, heldIn, widthsIn, operatorIn, Readable, standingOp, Standing, Evaluable, Assigned, pairsOf, derives, Narrowed, Fillable, Filled}
 use Rattle.evaluation.specs.laws.Good.{good-of}
 
 -- a position that the code's test finds there
@@ -202,3 +202,26 @@ root-hi s los his j r f e = ap (λ (w : Pairs). getD (w .his) r 0) (f .all) ∙ 
 pub node-there : (s : List ℕ) (i : ℕ) → checked s ≡ Accepted → i < problem s .nodes → 9 + 24 * i + 24 ≤ length s
 unfolding problem
 node-there s i a h = node-inside (accepted-facts s a) i h
+
+-- ---- node i of an accepted problem, as it was read
+
+module _ (s vs : List ℕ) (i : ℕ) {m : Node} (e : m ≡ nodeAt s i) where
+  -- the places of its operands are there
+  pub reads : Evaluable s vs i → (j : ℕ) → j < shapeOf (m .kind) .operands → at (ids m) j < length vs
+  unfolding problem
+  reads v j h = rw e (omega (arith, good-of s (v .accepted) .node i (v .inside) .below j (rw e at h), v .inside, v .places))
+
+  -- and so are the bytes of its operand a
+  pub first-readable : Evaluable s vs i → Readable s (m .a)
+  first-readable v = rw e (node-there s (nodeAt s i .a) (v .accepted) (first-inside s vs i v))
+
+  pub stands : Evaluable s vs i → 2 ≤ m .kind → Standing (standingOp s m) vs (m .a) (m .b) (m .c)
+  stands v k = rw e (standing s vs i v (rw e at k))
+
+  pub gives :
+      {r : ℕ}
+      → r ≡ meaning (kindOf (m .kind)) (m .width) (widthAt s (m .a)) (widthAt s (m .b)) (m .b)
+      (getD vs (m .a) 0) (getD vs (m .b) 0) (getD vs (m .c) 0)
+      → 2 ≤ m .kind
+      → r ≡ valueOf (problem s) vs i
+  gives g k = (rw e at g) ∙ gives-value s vs i (rw e at k)

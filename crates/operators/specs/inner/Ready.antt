@@ -1,7 +1,5 @@
 -- What is asked of an operator in its place, of its operands' values, and of its operands' pairs.
-use mathlib.Core.List.{List}
 use Prim.Native.Nat.{ℕ, _^_, _≤_, _<_}
-use lib.ListN.{length, getD}
 use Rattle.words.specs.Agree.{Within, Agrees}
 use Rattle.operators.specs.declared.fixed.Pair.{Pair}
 use Rattle.operators.specs.declared.meaning.Op.{Op}
@@ -34,13 +32,6 @@ pub record Ready (op : Op) (x y z : ℕ) : Type 0 where
   pub some : 1 ≤ op .width
   pub wide : op .width ≤ 64
   pub fit : Fit (shapeOf (op .kind) .rule) (op .width) (op .wa) (op .wb) (op .low) x y z
-
--- the same where the operands' values stand in a list: the ids a, b and c of the positions that the kind has are places of it
-pub record Standing (op : Op) (held : List ℕ) (a b c : ℕ) : Type 0 where
-  pub ready : Ready op (getD held a 0) (getD held b 0) (getD held c 0)
-  pub first : a < length held
-  pub second : 2 ≤ shapeOf (op .kind) .operands → b < length held
-  pub third : 3 ≤ shapeOf (op .kind) .operands → c < length held
 
 -- the same of operands' pairs, each of which is a ternary word
 pub record PairsReady (op : Op) (p q r : Pair) : Type 0 where

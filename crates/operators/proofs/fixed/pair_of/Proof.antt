@@ -7,7 +7,7 @@ use native.Mathlib.Omega.{arith}
 use Rattle.operators.specs.Fixed.{pair}
 use Rattle.operators.specs.laws.Sound.{lo-lt}
 use Rattle.operators.proofs.Pairs.{low-fits, low-is}
-use Rattle.operators.proofs.Parts.{join-asks, part-asks, none-left}
+use Rattle.operators.specs.laws.Arms.{join-asks, part-asks, none-left}
 use Rattle.operators.proofs.fixed.pair_of.Statement.{statement}
 use Rattle.operators.proofs.fixed.pair_of.Tie as tie
 
@@ -138,7 +138,7 @@ returns-15 : tie.Need-returns-15
 returns-15 c = rw (c .before .match .keys15) (c .sext-pair .ensures)
 
 returns-16 : tie.Need-returns-16
-returns-16 c = absurd (none-left (c .before .pre .ready) (c .match .rest))
+returns-16 c = let r = c .before .pre .ready in absurd (none-left 2 _ (r .operator) (r .known) tt (c .match .rest))
 
 pub pair-of-spec : {M : Type 1} → statement M
 pair-of-spec =
