@@ -10,7 +10,7 @@ use crate::subject::{Asked, Subject};
 use generate::Rng;
 use model::operator::all_operators;
 use model::word::all_pairs;
-use model::{definition, ones, Operator, Pair, Set, Spot};
+use model::{definition, ones, Kind, Operator, Pair, Set, Spot};
 
 /// How much is compared.
 #[derive(Clone, Copy, Debug)]
@@ -33,10 +33,10 @@ pub struct Count {
 }
 
 /// Compares all operators; gives the counts by kind number.
-pub fn compare(subject: &impl Subject, extent: Extent) -> Result<[Count; 14], String> {
+pub fn compare(subject: &impl Subject, extent: Extent) -> Result<[Count; Kind::COUNT], String> {
     let operators: Vec<Operator> = all_operators(extent.operand, extent.node);
     let compared = parts::each(&operators, |operator| compare_operator(subject, operator, extent))?;
-    let mut counts = [Count::default(); 14];
+    let mut counts = [Count::default(); Kind::COUNT];
     for (operator, one) in operators.iter().zip(compared) {
         let count = &mut counts[operator.kind.number() as usize];
         count.operators += 1;

@@ -41,7 +41,7 @@ fn spoilt(rng: &mut Rng, kind: Kind) -> Vec<(&'static str, Asked)> {
     };
     let shut = !spot.pairs[at].open();
     let mut faults = vec![
-        ("no such kind", with(&|q| q.kind = 14)),
+        ("no such kind", with(&|q| q.kind = Kind::COUNT as u8)),
         ("a variable", with(&|q| q.kind = 0)),
         ("a constant", with(&|q| q.kind = 1)),
         ("no such position", with(&|q| q.position = kind.operands() as u32)),

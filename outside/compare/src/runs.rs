@@ -22,9 +22,9 @@ pub struct Counts {
     pub moves: u64,
     pub steps: u64,
     /// Steps by the kind and position followed, from the inverse and from the consistent set.
-    pub followed: [[[u64; 2]; 3]; 14],
+    pub followed: [[[u64; 2]; 3]; Kind::COUNT],
     /// Steps at which a move was blocked, by kind.
-    pub blocked: [u64; 14],
+    pub blocked: [u64; Kind::COUNT],
     /// Problem checks alone, and how many of them refused.
     pub checks: u64,
     pub checks_refused: u64,

@@ -68,7 +68,7 @@ fn spoil_node(rng: &mut Rng, problem: &Problem, number: u8, bytes: &mut [u8]) {
     let field = |position: usize| at + 2 + 2 * position;
     let (lo, hi) = (at + 8, at + 16);
     match number {
-        7 => bytes[at] = rng.between(14, 255) as u8,
+        7 => bytes[at] = rng.between(Kind::COUNT, 255) as u8,
         8 => bytes[at + 1] = if rng.chance(40) { 0 } else { rng.between(65, 255) as u8 },
         9 => {
             let kind = if inner { node.kind } else { rng.one_of(&Kind::ALL[2..]) };

@@ -95,7 +95,7 @@ fn operand(rng: &mut Rng, builder: &mut Builder, width: u32) -> u16 {
 
 /// A node of any kind, with new leaves for operands that are not there.
 fn node(rng: &mut Rng, builder: &mut Builder, widths: Widths) -> u16 {
-    let kind = Kind::ALL[rng.below(14)];
+    let kind = rng.one_of(&Kind::ALL);
     let width = widths.draw(rng);
     match kind {
         Kind::Variable | Kind::Constant => leaf(rng, builder, width),
@@ -156,7 +156,7 @@ mod tests {
 
     #[test]
     fn problems_are_accepted_and_have_every_kind_and_width() {
-        let mut kinds = [0; 14];
+        let mut kinds = [0; Kind::COUNT];
         let mut widths = [0; 65];
         for index in 0..3000 {
             let mut rng = Rng::of_case(1, index);

@@ -24,10 +24,13 @@ pub enum Kind {
 use Kind::*;
 
 impl Kind {
-    pub const ALL: [Kind; 14] =
+    /// How many there are: refusal 7 begins at this number.
+    pub const COUNT: usize = 14;
+
+    pub const ALL: [Kind; Kind::COUNT] =
         [Variable, Constant, Not, And, Xor, Add, Mul, Shl, Lshr, Eq, Below, If, Concat, Extract];
 
-    /// The kind of a number, if it is not over 13.
+    /// The kind of a number, if there is one.
     pub fn from_number(number: u8) -> Option<Kind> {
         Kind::ALL.get(number as usize).copied()
     }
@@ -134,8 +137,8 @@ impl Operator {
     }
 }
 
-/// Every operator of kinds 2 to 13 whose operands have at most `most` bits each and whose node has
-/// at most `widest`: for tests that go through all of them.
+/// Every operator that has operands, of at most `most` bits each, and whose node has at most `widest`:
+/// for tests that go through all of them.
 pub fn all_operators(most: u32, widest: u32) -> Vec<Operator> {
     let mut found = Vec::new();
     let widths = |used: bool| if used { 1..=most } else { 0..=0 };

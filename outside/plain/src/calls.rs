@@ -1,7 +1,7 @@
 //! The calls in the library's own numbers and with its own tests of the arguments, so that the
 //! two are measured at the same work. Never inlined, as the library's are not.
 
-use crate::kind::EXTRACT;
+use crate::kind::{COUNT, EXTRACT};
 use crate::layout::{check as check_problem, height, operands, Refusal};
 use crate::mask;
 use crate::picking::{essential as is_essential, pick_consistent, pick_inverse, Spot};
@@ -93,8 +93,7 @@ pub fn essential(kind: u8, width: u32, low: u32, words: &[u64; 12], position: u3
 #[inline]
 fn spot(kind: u8, width: u32, low: u32, words: &[u64; 12], position: u32, target: u64) -> Option<Spot> {
     let count = operands(kind);
-    if kind > EXTRACT || position as usize >= count || width == 0 || width > 64 || target & !mask(width) != 0
-    {
+    if kind >= COUNT || position as usize >= count || width == 0 || width > 64 || target & !mask(width) != 0 {
         return None;
     }
     if kind != EXTRACT && low != 0 || low > 64 {

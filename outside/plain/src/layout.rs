@@ -43,11 +43,11 @@ pub fn hi(node: &Node) -> u64 {
     u64::from_le_bytes(*node[16..].first_chunk().expect("a node has 24 bytes"))
 }
 
-/// How many operands a kind has.
+/// How many operands a kind has; none that is not there.
 #[inline]
 pub fn operands(kind: u8) -> usize {
-    const COUNTS: [u8; 16] = [0, 0, 1, 2, 2, 2, 2, 2, 2, 2, 2, 3, 2, 1, 0, 0];
-    usize::from(COUNTS[usize::from(kind & 15)])
+    const OPERANDS: [u8; COUNT as usize] = [0, 0, 1, 2, 2, 2, 2, 2, 2, 2, 2, 3, 2, 1];
+    OPERANDS.get(usize::from(kind)).map_or(0, |&count| count.into())
 }
 
 /// The nodes and roots of an accepted problem.
@@ -108,7 +108,7 @@ fn parts(bytes: &[u8]) -> Result<Problem<'_>, u8> {
 /// A node's refusals, 7 to 12.
 fn check_node(node: &Node, before: &[Node]) -> Result<(), u8> {
     let (kind, w) = (kind(node), width(node));
-    if kind > EXTRACT {
+    if kind >= COUNT {
         return Err(7);
     }
     if w == 0 || w > 64 {

@@ -34,6 +34,8 @@ pub mod kind {
     pub const IF: u8 = 11;
     pub const CONCAT: u8 = 12;
     pub const EXTRACT: u8 = 13;
+    /// How many there are: refusal 7 begins at this number.
+    pub const COUNT: u8 = 14;
 }
 
 /// The `count` low bits, for any count up to 64.

@@ -6,7 +6,7 @@ use model::{Kind, Problem};
 use text::smt2::{nodes, values, Variables};
 
 /// How many nodes of each kind agreed.
-pub type Counts = [u64; 14];
+pub type Counts = [u64; Kind::COUNT];
 
 struct Evaluated {
     problem: Problem,
