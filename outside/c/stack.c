@@ -26,10 +26,10 @@ static void put(int id, uint8_t kind, uint8_t width, int a, int b) {
 
 /* x, then one operator after another over the last two nodes; then a comparison for each root. */
 static void fill(void) {
-    static const uint8_t kinds[] = {WAL_ADD, WAL_MUL, WAL_SHL, WAL_LSHR, WAL_XOR, WAL_AND};
+    static const uint8_t kinds[] = {WAL_ADD, WAL_MUL, WAL_SHL, WAL_LSHR, WAL_XOR, WAL_AND, WAL_ASHR};
     put(0, WAL_VARIABLE, 64, 0, 0);
     put(1, WAL_VARIABLE, 64, 0, 0);
-    for (int id = 2; id < NODES - ROOTS; id++) put(id, kinds[id % 6], 64, id - 1, id - 2);
+    for (int id = 2; id < NODES - ROOTS; id++) put(id, kinds[id % 7], 64, id - 1, id - 2);
     for (int root = 0; root < ROOTS; root++) {
         int id = NODES - ROOTS + root;
         put(id, root % 2 ? WAL_EQ : WAL_BELOW, 1, id - ROOTS, id - ROOTS - 1);
@@ -52,16 +52,23 @@ static void *need(void *none) {
     if (wal_need(problem, LENGTH, 1000, out, WAL_NEED_OUT) != WAL_ACCEPTED) abort();
     return none;
 }
+/* The kinds with two operands of one width, and the node's width over operands of 64 bits. */
+static const struct {
+    uint8_t kind, width;
+} pairs[] = {{WAL_AND, 64},  {WAL_XOR, 64}, {WAL_ADD, 64},  {WAL_MUL, 64},         {WAL_SHL, 64},
+             {WAL_LSHR, 64}, {WAL_EQ, 1},   {WAL_BELOW, 1}, {WAL_SIGNED_BELOW, 1}, {WAL_ASHR, 64}};
+enum { PAIRS = sizeof pairs / sizeof *pairs };
+
 static void *picks(void *none) {
-    for (uint8_t kind = WAL_AND; kind <= WAL_BELOW; kind++)
+    for (int at = 0; at < PAIRS; at++)
         for (uint32_t position = 0; position < 2; position++)
             for (uint8_t which = 0; which < 2; which++)
-                if (wal_pick(kind, kind < WAL_EQ ? 64 : 1, 0, spot, 12, position, 1, 9, which, out, 1) > 1) abort();
+                if (wal_pick(pairs[at].kind, pairs[at].width, 0, spot, 12, position, 1, 9, which, out, 1) > 1) abort();
     return none;
 }
 static void *essential(void *none) {
-    for (uint8_t kind = WAL_AND; kind <= WAL_BELOW; kind++)
-        if (wal_essential(kind, kind < WAL_EQ ? 64 : 1, 0, spot, 12, 0, 1) > 1) abort();
+    for (int at = 0; at < PAIRS; at++)
+        if (wal_essential(pairs[at].kind, pairs[at].width, 0, spot, 12, 0, 1) > 1) abort();
     return none;
 }
 

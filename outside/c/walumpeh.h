@@ -41,7 +41,10 @@ enum {
     WAL_BELOW = 10, /* a below b, unsigned */
     WAL_IF = 11,    /* if a then b else c */
     WAL_CONCAT = 12, /* a high */
-    WAL_EXTRACT = 13
+    WAL_EXTRACT = 13,
+    WAL_SIGNED_BELOW = 14, /* a below b, signed */
+    WAL_ASHR = 15,         /* a shifted right, its top bit filling */
+    WAL_SIGN_EXTEND = 16   /* a with its top bit repeated in front */
 };
 
 /* Refusals, in the order of checking; in brackets what the place is. */
@@ -53,7 +56,7 @@ enum {
     WAL_NODES = 4,         /* more than 1,024 nodes */
     WAL_ROOTS = 5,         /* more than 256 roots */
     WAL_LENGTH = 6,        /* the length is not 9 + 24 for each node + 2 for each root */
-    WAL_KIND = 7,          /* [node] the kind is over 13 */
+    WAL_KIND = 7,          /* [node] the kind is over 16 */
     WAL_WIDTH = 8,         /* [node] the width is 0 or over 64 */
     WAL_OPERAND = 9,       /* [node] an operand's id is not below the node's own */
     WAL_UNUSED_FIELD = 10, /* [node] a field that the kind does not use is not zero */

@@ -40,6 +40,7 @@ fn spoilt(rng: &mut Rng, kind: Kind) -> Vec<(&'static str, Asked)> {
         changed
     };
     let shut = !spot.pairs[at].open();
+    let extends = kind == Kind::SignExtend;
     let mut faults = vec![
         ("no such kind", with(&|q| q.kind = Kind::COUNT as u8)),
         ("a variable", with(&|q| q.kind = 0)),
@@ -49,7 +50,7 @@ fn spoilt(rng: &mut Rng, kind: Kind) -> Vec<(&'static str, Asked)> {
         ("width 65", with(&|q| q.width = 65)),
         ("an operand of no bits", with(&|q| q.words[at] = 0)),
         ("an operand of 65 bits", with(&|q| q.words[at] = 65)),
-        ("a node too wide", with(&|q| q.width = 64)),
+        ("a node of another width", with(&|q| q.width = if extends { operator.widths[0] } else { 64 })),
         ("lo outside hi", with(&|q| (q.words[3 + at], q.words[6 + at]) = (1, 0))),
         ("hi outside the width", with(&|q| q.words[6 + at] = u64::MAX)),
         ("a value that does not agree", with(&|q| q.words[9 + at] ^= 1 << shut.trailing_zeros())),

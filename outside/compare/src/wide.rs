@@ -115,7 +115,7 @@ fn witness(spot: &Spot, position: usize, target: u64, v: u64) -> Option<[u64; 3]
     let mut spot = *spot;
     spot.values[position] = v;
     let found = match (operator.kind, position) {
-        (Kind::Not | Kind::Extract, _) => spot.values,
+        (Kind::Not | Kind::Extract | Kind::SignExtend, _) => spot.values,
         (Kind::If, 0) => [v, target, target],
         (Kind::If, 1) => [0, v, target],
         (Kind::If, _) => [1, target, v],

@@ -31,6 +31,8 @@ enum Wrong {
     DropsTheConsistentChoice,
     TakesShiftAmountsModulo,
     TakesOneOperatorForAnother,
+    OrdersSignedAsUnsigned,
+    FillsWithZeros,
 }
 
 use Wrong::*;
@@ -114,6 +116,12 @@ impl Subject for Wrong {
         if *self == TakesOneOperatorForAnother && asked.kind == Kind::Shl.number() {
             asked.kind = Kind::Lshr.number();
         }
+        if *self == OrdersSignedAsUnsigned && asked.kind == Kind::SignedBelow.number() {
+            asked.kind = Kind::Below.number();
+        }
+        if *self == FillsWithZeros && asked.kind == Kind::Ashr.number() {
+            asked.kind = Kind::Lshr.number();
+        }
         let mut picked = [0];
         let found = Model.pick(&asked, set, proposal, &mut picked);
         if found != 1 || *self == ForgetsToGoRound && picked[0] < proposal & model::ones(width) {
@@ -189,6 +197,8 @@ fn wrong_picks_are_caught_at_few_bits_and_at_many() {
         DropsTheConsistentChoice,
         TakesShiftAmountsModulo,
         TakesOneOperatorForAnother,
+        OrdersSignedAsUnsigned,
+        FillsWithZeros,
     ];
     for (number, wrong) in wrongs.into_iter().enumerate() {
         assert!(narrow::compare(&wrong, extent).is_err(), "wrong pick {number} passed at few bits");

@@ -38,11 +38,11 @@ impl Builder {
         self.push(Node { kind: Kind::Constant, width, fields: [0; 3], pair: Pair::fixed(value) })
     }
 
-    /// A node of an operator whose width its operands decide: all kinds but extract.
+    /// A node of an operator whose width its operands decide: all kinds but extract and sext.
     pub fn node(&mut self, kind: Kind, operands: &[u16]) -> u16 {
         assert_eq!(operands.len(), kind.operands());
         let width = match kind {
-            Kind::Eq | Kind::Below => 1,
+            Kind::Eq | Kind::Below | Kind::SignedBelow => 1,
             Kind::If => self.width(operands[1]),
             Kind::Concat => self.width(operands[0]) + self.width(operands[1]),
             _ => self.width(operands[0]),
@@ -55,6 +55,11 @@ impl Builder {
     /// The `width` bits of node `a` from bit `low` on.
     pub fn extract(&mut self, a: u16, low: u32, width: u32) -> u16 {
         self.push(Node { kind: Kind::Extract, width, fields: [a, low as u16, 0], pair: Pair::default() })
+    }
+
+    /// Node `a` with its top bit repeated in front, `width` bits in all.
+    pub fn sign_extend(&mut self, a: u16, width: u32) -> u16 {
+        self.push(Node { kind: Kind::SignExtend, width, fields: [a, 0, 0], pair: Pair::default() })
     }
 
     /// Makes a node a root, where it is none yet: roots may not repeat.

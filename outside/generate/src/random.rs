@@ -52,8 +52,13 @@ pub fn problem(rng: &mut Rng, size: usize) -> Problem {
     builder.problem
 }
 
-/// Nodes alone, without roots: exactly `size` of them.
+/// Nodes alone, without roots, of every kind: exactly `size` of them.
 pub fn nodes(rng: &mut Rng, size: usize) -> Builder {
+    nodes_of(rng, size, &Kind::ALL)
+}
+
+/// The same of some kinds alone, and of variables and constants as their operands.
+pub fn nodes_of(rng: &mut Rng, size: usize, kinds: &[Kind]) -> Builder {
     let widths = Widths::any(rng);
     let mut builder = Builder::new();
     while builder.len() < size {
@@ -62,7 +67,8 @@ pub fn nodes(rng: &mut Rng, size: usize) -> Builder {
             let width = widths.draw(rng);
             leaf(rng, &mut builder, width);
         } else {
-            node(rng, &mut builder, widths);
+            let kind = rng.one_of(kinds);
+            node(rng, &mut builder, kind, widths);
         }
     }
     builder
@@ -93,9 +99,8 @@ fn operand(rng: &mut Rng, builder: &mut Builder, width: u32) -> u16 {
     }
 }
 
-/// A node of any kind, with new leaves for operands that are not there.
-fn node(rng: &mut Rng, builder: &mut Builder, widths: Widths) -> u16 {
-    let kind = rng.one_of(&Kind::ALL);
+/// A node of a kind, with new leaves for operands that are not there.
+fn node(rng: &mut Rng, builder: &mut Builder, kind: Kind, widths: Widths) -> u16 {
     let width = widths.draw(rng);
     match kind {
         Kind::Variable | Kind::Constant => leaf(rng, builder, width),
@@ -117,6 +122,12 @@ fn node(rng: &mut Rng, builder: &mut Builder, widths: Widths) -> u16 {
             let low = rng.below(width as usize) as u32;
             let taken = rng.between(1, (width - low) as usize) as u32;
             builder.extract(from, low, taken)
+        }
+        Kind::SignExtend => {
+            let total = width.max(2);
+            let from = rng.between(1, total as usize - 1) as u32;
+            let from = operand(rng, builder, from);
+            builder.sign_extend(from, total)
         }
         _ => {
             let operands: Vec<u16> = (0..kind.operands()).map(|_| operand(rng, builder, width)).collect();

@@ -9,7 +9,7 @@ pub fn operator(rng: &mut Rng, kind: Kind, from: usize, to: usize) -> Operator {
     let x = rng.between(from, to) as u32;
     let (width, widths, low) = match kind {
         Kind::Not => (x, [x, 0, 0], 0),
-        Kind::Eq | Kind::Below => (1, [x, x, 0], 0),
+        Kind::Eq | Kind::Below | Kind::SignedBelow => (1, [x, x, 0], 0),
         Kind::If => (x, [1, x, x], 0),
         Kind::Concat => {
             let total = x.max(2);
@@ -19,6 +19,10 @@ pub fn operator(rng: &mut Rng, kind: Kind, from: usize, to: usize) -> Operator {
         Kind::Extract => {
             let low = rng.below(x as usize) as u32;
             (rng.between(1, (x - low) as usize) as u32, [x, 0, 0], low)
+        }
+        Kind::SignExtend => {
+            let x = x.min(63);
+            (rng.between(x as usize + 1, 64) as u32, [x, 0, 0], 0)
         }
         _ => (x, [x, x, 0], 0),
     };

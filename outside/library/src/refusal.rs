@@ -46,7 +46,7 @@ impl Refusal {
             4 => "more than 1,024 nodes",
             5 => "more than 256 roots",
             6 => "the length is not 9 + 24 for each node + 2 for each root",
-            7 => "the kind is over 13",
+            7 => "the kind is over 16",
             8 => "the width is 0 or over 64",
             9 => "an operand's id is not below the node's own",
             10 => "a field that the kind does not use is not zero",

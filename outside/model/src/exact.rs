@@ -5,7 +5,7 @@
 //! ternary words, bit by bit, the same way for all kinds. Tests hold all of it against `definition`.
 
 use crate::operator::Kind;
-use crate::word::{ones, Pair};
+use crate::word::{ones, sign_extended, Pair};
 use crate::{Set, Spot};
 
 /// The pick from a set of a position.
@@ -24,7 +24,7 @@ pub fn essential(spot: &Spot, position: usize, target: u64) -> bool {
     let mine = spot.values[position];
     let [a, b, c] = spot.pairs;
     let reached = match (spot.operator.kind, position) {
-        (Kind::Not | Kind::Extract, _) => spot.operator.apply(spot.values) == target,
+        (Kind::Not | Kind::Extract | Kind::SignExtend, _) => spot.operator.apply(spot.values) == target,
         (Kind::If, 0) if mine == 1 => b.agrees(target),
         (Kind::If, 0) => c.agrees(target),
         (Kind::If, 1) => a.agrees(1) && mine == target || a.agrees(0) && c.agrees(target),
@@ -86,8 +86,10 @@ fn meets_inverse(spot: &Spot, position: usize, t: u64, word: Pair) -> bool {
         (Kind::Xor, _) => word.agrees(t ^ other),
         (Kind::Add, _) => word.agrees(t.wrapping_sub(other) & all),
         (Kind::Mul, _) => meets_factor(word, other, t, w),
-        (Kind::Shl | Kind::Lshr, 0) => shifted(operator.kind, w, word, b).agrees(t),
-        (Kind::Shl | Kind::Lshr, _) => some_amount(w, word, |by| operator.apply([a, by, 0]) == t),
+        (Kind::Shl | Kind::Lshr | Kind::Ashr, 0) => shifts_to(operator.kind, w, word, b, t),
+        (Kind::Shl | Kind::Lshr | Kind::Ashr, _) => {
+            some_amount(w, word, |by| operator.apply([a, by, 0]) == t)
+        }
         (Kind::Eq, _) if t == 1 => word.agrees(other),
         (Kind::Eq, _) => word != Pair::fixed(other),
         (Kind::Below, 0) if t == 1 => word.lo < b,
@@ -102,6 +104,14 @@ fn meets_inverse(spot: &Spot, position: usize, t: u64, word: Pair) -> bool {
         (Kind::Concat, 0) => word.agrees(t >> operator.widths[1]) && b == t & ones(operator.widths[1]),
         (Kind::Concat, _) => word.agrees(t & ones(operator.widths[1])) && a == t >> operator.widths[1],
         (Kind::Extract, _) => word.part(operator.low, w).agrees(t),
+        (Kind::SignedBelow, _) => {
+            let (spot, word) = unsigned(spot, word);
+            meets_inverse(&spot, position, t, word)
+        }
+        (Kind::SignExtend, _) => {
+            let part = t & operator.largest(0);
+            word.agrees(part) && operator.apply([part, 0, 0]) == t
+        }
     }
 }
 
@@ -117,17 +127,21 @@ fn meets_consistent(spot: &Spot, position: usize, t: u64, word: Pair) -> bool {
         // x · s = t has a solution s exactly if t is 0 or has at least as many zeros at its end as x.
         (Kind::Mul, _) => t == 0 || word.hi & ones(t.trailing_zeros() + 1) != 0,
         // Amount w stands for all of w and more, and is a value of w bits.
-        (Kind::Shl | Kind::Lshr, 0) => {
-            (0..=u64::from(w)).any(|by| shifted(operator.kind, w, word, by).agrees(t))
+        (Kind::Shl | Kind::Lshr | Kind::Ashr, 0) => {
+            (0..=u64::from(w)).any(|by| shifts_to(operator.kind, w, word, by, t))
         }
-        (Kind::Shl | Kind::Lshr, _) => {
-            some_amount(w, word, |by| shifted(operator.kind, w, Pair::free(w), by).agrees(t))
+        (Kind::Shl | Kind::Lshr | Kind::Ashr, _) => {
+            some_amount(w, word, |by| shifts_to(operator.kind, w, Pair::free(w), by, t))
         }
         (Kind::Below, 0) => t == 0 || word.lo < operator.largest(1),
         (Kind::Below, _) => t == 0 || word.hi > 0,
         (Kind::Concat, 0) => word.agrees(t >> operator.widths[1]),
         (Kind::Concat, _) => word.agrees(t & ones(operator.widths[1])),
-        (Kind::Not | Kind::Extract, _) => meets_inverse(spot, position, t, word),
+        (Kind::SignedBelow, _) => {
+            let (spot, word) = unsigned(spot, word);
+            meets_consistent(&spot, position, t, word)
+        }
+        (Kind::Not | Kind::Extract | Kind::SignExtend, _) => meets_inverse(spot, position, t, word),
         (Kind::Variable | Kind::Constant, _) => panic!("no operands"),
     }
 }
@@ -153,7 +167,31 @@ fn meets_factor(word: Pair, s: u64, t: u64, w: u32) -> bool {
     true
 }
 
-/// The results of shifting by a known amount the values that agree with a word: a ternary word again.
+/// The signed order of words is the unsigned one of the words with their top bits turned: the spot of
+/// below, and the word, that ask the same.
+fn unsigned(spot: &Spot, word: Pair) -> (Spot, Pair) {
+    let top = 1 << (spot.operator.widths[0] - 1);
+    let mut turned = *spot;
+    turned.operator.kind = Kind::Below;
+    turned.values[0] ^= top;
+    turned.values[1] ^= top;
+    (turned, word.turned(top))
+}
+
+/// Whether a value that agrees with a word gives the target when it is shifted by a known amount. A shift
+/// that fills with the top bit keeps the high bits of its operand, at least one: it gives exactly the
+/// sign extensions of these.
+fn shifts_to(kind: Kind, w: u32, word: Pair, by: u64, t: u64) -> bool {
+    if kind != Kind::Ashr {
+        return shifted(kind, w, word, by).agrees(t);
+    }
+    let kept = w - by.min(u64::from(w) - 1) as u32;
+    let part = t & ones(kept);
+    word.part(w - kept, kept).agrees(part) && sign_extended(part, kept, w) == t
+}
+
+/// The results of shifting, with zeros filling, by a known amount the values that agree with a word: a
+/// ternary word again.
 fn shifted(kind: Kind, w: u32, word: Pair, by: u64) -> Pair {
     if by >= u64::from(w) {
         return Pair::fixed(0);

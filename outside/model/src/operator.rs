@@ -1,6 +1,6 @@
 //! The table of kinds: how many operands each has, which widths fit, and what it means.
 
-use crate::word::ones;
+use crate::word::{ones, sign_extended, signed};
 
 /// The kinds by their numbers.
 #[derive(Clone, Copy, Debug, PartialEq, Eq, PartialOrd, Ord, Hash)]
@@ -19,16 +19,36 @@ pub enum Kind {
     If,
     Concat,
     Extract,
+    SignedBelow,
+    Ashr,
+    SignExtend,
 }
 
 use Kind::*;
 
 impl Kind {
     /// How many there are: refusal 7 begins at this number.
-    pub const COUNT: usize = 14;
+    pub const COUNT: usize = 17;
 
-    pub const ALL: [Kind; Kind::COUNT] =
-        [Variable, Constant, Not, And, Xor, Add, Mul, Shl, Lshr, Eq, Below, If, Concat, Extract];
+    pub const ALL: [Kind; Kind::COUNT] = [
+        Variable,
+        Constant,
+        Not,
+        And,
+        Xor,
+        Add,
+        Mul,
+        Shl,
+        Lshr,
+        Eq,
+        Below,
+        If,
+        Concat,
+        Extract,
+        SignedBelow,
+        Ashr,
+        SignExtend,
+    ];
 
     /// The kind of a number, if there is one.
     pub fn from_number(number: u8) -> Option<Kind> {
@@ -43,8 +63,8 @@ impl Kind {
     pub fn operands(self) -> usize {
         match self {
             Variable | Constant => 0,
-            Not | Extract => 1,
-            And | Xor | Add | Mul | Shl | Lshr | Eq | Below | Concat => 2,
+            Not | Extract | SignExtend => 1,
+            And | Xor | Add | Mul | Shl | Lshr | Eq | Below | Concat | SignedBelow | Ashr => 2,
             If => 3,
         }
     }
@@ -75,6 +95,9 @@ impl Kind {
             If => "if",
             Concat => "concat",
             Extract => "extract",
+            SignedBelow => "slt",
+            Ashr => "ashr",
+            SignExtend => "sext",
         }
     }
 }
@@ -97,11 +120,12 @@ impl Operator {
         match self.kind {
             Variable | Constant => true,
             Not => a == w,
-            And | Xor | Add | Mul | Shl | Lshr => a == w && b == w,
-            Eq | Below => a == b && w == 1,
+            And | Xor | Add | Mul | Shl | Lshr | Ashr => a == w && b == w,
+            Eq | Below | SignedBelow => a == b && w == 1,
             If => a == 1 && b == w && c == w,
             Concat => a + b == w,
             Extract => self.low + w <= a,
+            SignExtend => w > a,
         }
     }
 
@@ -110,6 +134,7 @@ impl Operator {
         let w = self.width;
         let modulus = 1u128 << w;
         let [a, b, c] = values.map(u128::from);
+        let lshr = |v: u128| if b >= u128::from(w) { 0 } else { v >> b };
         let value = match self.kind {
             Variable | Constant => panic!("a {} computes nothing", self.kind.name()),
             Not => modulus - 1 - a,
@@ -117,15 +142,23 @@ impl Operator {
             Xor => a ^ b,
             Add => (a + b) % modulus,
             Mul => (a * b) % modulus,
-            Shl | Lshr if b >= u128::from(w) => 0,
+            Shl if b >= u128::from(w) => 0,
             Shl => (a << b) % modulus,
-            Lshr => a >> b,
+            Lshr => lshr(a),
+            // SMT-LIB: as lshr where the top bit is 0, else the complement of the complement's lshr.
+            Ashr if a < modulus / 2 => lshr(a),
+            Ashr => modulus - 1 - lshr(modulus - 1 - a),
             Eq => u128::from(a == b),
             Below => u128::from(a < b),
             If if a == 1 => b,
             If => c,
             Concat => (a << self.widths[1]) + b,
             Extract => (a >> self.low) % modulus,
+            SignedBelow => {
+                let [a, b] = [0, 1].map(|at| signed(values[at], self.widths[at]));
+                u128::from(a < b)
+            }
+            SignExtend => sign_extended(values[0], self.widths[0], w).into(),
         };
         debug_assert!(value < modulus);
         value as u64
@@ -196,6 +229,27 @@ mod tests {
         assert_eq!(apply(If, 4, [1, 4, 4], 0, [0, 7, 9]), 9);
         assert_eq!(apply(Below, 1, [4, 4, 0], 0, [7, 9, 0]), 1);
         assert_eq!(apply(Below, 1, [4, 4, 0], 0, [9, 9, 0]), 0);
+    }
+
+    /// The signed order by the sign bits, as SMT-LIB has it; the shift by division, rounded down.
+    #[test]
+    fn signed_kinds_in_other_words() {
+        for width in 1..=4 {
+            let top = 1 << (width - 1);
+            for a in 0..=ones(width) {
+                for b in 0..=ones(width) {
+                    let below = a & top > b & top || a & top == b & top && a < b;
+                    let widths = [width, width, 0];
+                    assert_eq!(apply(SignedBelow, 1, widths, 0, [a, b, 0]), u64::from(below));
+                    let quotient = signed(a, width).div_euclid(1 << b);
+                    let shifted = apply(Ashr, width, widths, 0, [a, b, 0]);
+                    assert_eq!(signed(shifted, width), quotient, "{a} by {b} at {width}");
+                }
+                let wide = apply(SignExtend, 7, [width, 0, 0], 0, [a, 0, 0]);
+                assert_eq!(signed(wide, 7), signed(a, width));
+            }
+        }
+        assert_eq!(apply(Ashr, 64, [64, 64, 0], 0, [1 << 63, u64::MAX, 0]), u64::MAX);
     }
 
     #[test]

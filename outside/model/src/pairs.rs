@@ -2,7 +2,7 @@
 
 use crate::operator::{Kind, Operator};
 use crate::problem::Problem;
-use crate::word::{ones, Pair};
+use crate::word::{ones, signed, Pair};
 
 /// Every node's pair.
 pub fn pairs(problem: &Problem) -> Vec<Pair> {
@@ -42,11 +42,17 @@ pub fn result(operator: &Operator, [a, b, c]: [Pair; 3]) -> Pair {
             Pair { lo: computed, hi: computed | all & !ones(k) }
         }
         // "with a fully fixed amount, the shifted pair (filled places fixed at 0); else all free"
-        Kind::Shl | Kind::Lshr if b.is_fixed() => {
+        // and "as lshr with the sign's ternary bit filling"
+        Kind::Shl | Kind::Lshr | Kind::Ashr if b.is_fixed() => {
             let shifted = |v: u64| operator.apply([v, b.lo, 0]);
             Pair { lo: shifted(a.lo), hi: shifted(a.hi) }
         }
-        Kind::Shl | Kind::Lshr => Pair::free(w),
+        Kind::Shl | Kind::Lshr | Kind::Ashr => Pair::free(w),
+        // "the top bit's state is copied"
+        Kind::SignExtend => {
+            let extended = |v: u64| operator.apply([v, 0, 0]);
+            Pair { lo: extended(a.lo), hi: extended(a.hi) }
+        }
         // "0 if some position is fixed both sides and differs; 1 if both are fully fixed and equal"
         Kind::Eq if (a.lo ^ b.lo) & !a.open() & !b.open() != 0 => Pair::fixed(0),
         Kind::Eq if a.is_fixed() && b.is_fixed() => Pair::fixed(1),
@@ -55,11 +61,29 @@ pub fn result(operator: &Operator, [a, b, c]: [Pair; 3]) -> Pair {
         Kind::Below if a.hi < b.lo => Pair::fixed(1),
         Kind::Below if a.lo >= b.hi => Pair::fixed(0),
         Kind::Below => Pair::free(1),
+        // "decided when the signed least and greatest values of the pairs decide it"
+        Kind::SignedBelow if greatest(a, operator.widths[0]) < least(b, operator.widths[1]) => Pair::fixed(1),
+        Kind::SignedBelow if least(a, operator.widths[0]) >= greatest(b, operator.widths[1]) => {
+            Pair::fixed(0)
+        }
+        Kind::SignedBelow => Pair::free(1),
         // "the chosen branch if the condition is fixed; else the bits fixed alike in both branches"
         Kind::If if a == Pair::fixed(1) => b,
         Kind::If if a == Pair::fixed(0) => c,
         Kind::If => Pair { lo: b.lo & c.lo, hi: b.hi | c.hi },
     }
+}
+
+/// The least of the signed values that agree: with the top bit where it may be 1, and no other free one.
+fn least(pair: Pair, width: u32) -> i128 {
+    let top = 1 << (width - 1);
+    signed(pair.lo | pair.hi & top, width)
+}
+
+/// The greatest: without the top bit where it may be 0, and with every other free one.
+fn greatest(pair: Pair, width: u32) -> i128 {
+    let top = 1 << (width - 1);
+    signed(pair.hi & (!top | pair.lo), width)
 }
 
 /// The pair of the bits that an operator forces: those that are the same for every choice of
@@ -106,9 +130,25 @@ mod tests {
     }
 
     #[test]
-    fn bitwise_kinds_fix_exactly_the_forced_bits() {
+    fn signed_extremes_are_those_of_the_members() {
+        for pair in all_pairs(4) {
+            let members: Vec<i128> = pair.members().map(|v| signed(v, 4)).collect();
+            assert_eq!(members.iter().min(), Some(&least(pair, 4)));
+            assert_eq!(members.iter().max(), Some(&greatest(pair, 4)));
+        }
+    }
+
+    /// The bitwise kinds, and those whose rules come to the same.
+    #[test]
+    fn these_kinds_fix_exactly_the_forced_bits() {
         for_every_operator_and_pairs(|operator, pairs| {
-            if matches!(operator.kind, Kind::Not | Kind::And | Kind::Xor | Kind::Concat | Kind::Extract) {
+            let exact = match operator.kind {
+                Kind::Not | Kind::And | Kind::Xor | Kind::Concat | Kind::Extract => true,
+                Kind::Below | Kind::SignedBelow | Kind::SignExtend => true,
+                Kind::Shl | Kind::Lshr | Kind::Ashr => pairs[1].is_fixed(),
+                _ => false,
+            };
+            if exact {
                 assert_eq!(result(operator, pairs), forced(operator, pairs), "{operator:?} {pairs:?}");
             }
         });
@@ -139,7 +179,7 @@ mod tests {
                         let all_below = (0..=i).all(|j| fixed_at(a, j) && fixed_at(b, j));
                         assert_eq!(fixed, all_below);
                     }
-                    Kind::Shl | Kind::Lshr if !b.is_fixed() => assert!(!fixed),
+                    Kind::Shl | Kind::Lshr | Kind::Ashr if !b.is_fixed() => assert!(!fixed),
                     Kind::Shl | Kind::Lshr => {
                         let from = if operator.kind == Kind::Shl {
                             u64::from(i).checked_sub(b.lo)

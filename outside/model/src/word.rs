@@ -6,6 +6,18 @@ pub fn ones(width: u32) -> u64 {
     ((1u128 << width) - 1) as u64
 }
 
+/// The number that a word of `width` bits stands for where its top bit counts below 0.
+pub fn signed(value: u64, width: u32) -> i128 {
+    let below = if value >> (width - 1) & 1 == 1 { 1 << width } else { 0 };
+    i128::from(value) - below
+}
+
+/// A word of `from` bits as one of `to` bits, its top bit repeated in front of it.
+pub fn sign_extended(value: u64, from: u32, to: u32) -> u64 {
+    let front = if value >> (from - 1) & 1 == 1 { ones(to) & !ones(from) } else { 0 };
+    value | front
+}
+
 /// "A ternary word is a pair lo, hi with no bit set in lo and clear in hi. A bit is fixed where lo
 /// and hi agree."
 #[derive(Clone, Copy, Debug, Default, PartialEq, Eq)]
@@ -50,6 +62,11 @@ impl Pair {
         Pair { lo: self.lo >> low & ones(width), hi: self.hi >> low & ones(width) }
     }
 
+    /// The same word with the bits under a mask turned: fixed ones the other way round, free ones free.
+    pub fn turned(self, mask: u64) -> Pair {
+        Pair { lo: self.lo & !mask | !self.hi & mask, hi: self.hi & !mask | !self.lo & mask }
+    }
+
     /// The values that agree with both, if there are any: they are a ternary word again.
     pub fn meet(self, other: Pair) -> Option<Pair> {
         let both = Pair { lo: self.lo | other.lo, hi: self.hi & other.hi };
@@ -81,6 +98,25 @@ mod tests {
         assert_eq!(ones(0), 0);
         assert_eq!(ones(1), 1);
         assert_eq!(ones(64), u64::MAX);
+    }
+
+    #[test]
+    fn signed_words_of_four_bits() {
+        let numbers: Vec<i128> = (0..16).map(|value| signed(value, 4)).collect();
+        assert_eq!(numbers, [0, 1, 2, 3, 4, 5, 6, 7, -8, -7, -6, -5, -4, -3, -2, -1]);
+        assert_eq!(signed(u64::MAX, 64), -1);
+        for value in 0..16 {
+            assert_eq!(signed(sign_extended(value, 4, 9), 9), signed(value, 4));
+        }
+        assert_eq!(sign_extended(1 << 62, 63, 64), 3 << 62);
+    }
+
+    #[test]
+    fn a_turned_word_has_the_turned_members() {
+        for pair in all_pairs(3) {
+            let turned: std::collections::BTreeSet<u64> = pair.members().map(|v| v ^ 0b101).collect();
+            assert_eq!(pair.turned(0b101).members().collect::<Vec<_>>(), Vec::from_iter(turned));
+        }
     }
 
     #[test]

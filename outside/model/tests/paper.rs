@@ -75,7 +75,7 @@ fn members(spot: &Spot, set: Set, position: usize, target: u64) -> Vec<u64> {
 
 /// A spot of two operands of one width: x with its pair at position 0, s at position 1.
 fn spot(kind: Kind, operand: u32, x: Pair, s: u64) -> Spot {
-    let width = if matches!(kind, Kind::Eq | Kind::Below) { 1 } else { operand };
+    let width = if matches!(kind, Kind::Eq | Kind::Below | Kind::SignedBelow) { 1 } else { operand };
     Spot {
         operator: Operator { kind, width, widths: [operand, operand, 0], low: 0 },
         pairs: [x, Pair::free(operand), Pair::default()],
@@ -130,6 +130,41 @@ fn numbers_to_test_by() {
         pairs::result(&sum.operator, [sum.pairs[0], Pair::fixed(3), Pair::default()]),
         Pair { lo: 0, hi: 0b1100 }
     );
+}
+
+#[test]
+fn signed_words() {
+    // -8 to -1 are below 0, and 0 to 7 are not.
+    let below = spot(Kind::SignedBelow, 4, Pair::free(4), 0);
+    assert_eq!(members(&below, Set::Inverse, 0, 1), (8..=15).collect::<Vec<_>>());
+    assert_eq!(members(&below, Set::Inverse, 0, 0), (0..=7).collect::<Vec<_>>());
+    assert_eq!(exact::pick(&below, Set::Inverse, 0, 1, 3), Some(8));
+    // Nothing is below the least, nor above the greatest.
+    assert_eq!(members(&spot(Kind::SignedBelow, 4, Pair::free(4), 8), Set::Inverse, 0, 1), []);
+    assert_eq!(members(&below, Set::Consistent, 0, 1), (0..=15).filter(|&v| v != 7).collect::<Vec<_>>());
+    assert_eq!(members(&below, Set::Consistent, 1, 1), (0..=15).filter(|&v| v != 8).collect::<Vec<_>>());
+
+    assert_eq!(members(&spot(Kind::Ashr, 4, Pair::free(4), 1), Set::Inverse, 0, 12), [8, 9]);
+    assert_eq!(members(&spot(Kind::Ashr, 4, Pair::free(4), 1), Set::Inverse, 0, 4), []);
+    assert_eq!(
+        members(&spot(Kind::Ashr, 4, Pair::free(4), 9), Set::Inverse, 0, 15),
+        (8..=15).collect::<Vec<_>>()
+    );
+    assert_eq!(members(&spot(Kind::Ashr, 4, Pair::free(4), 0), Set::Consistent, 0, 13), [10, 11, 13]);
+
+    let extend = |target| {
+        let operator = Operator { kind: Kind::SignExtend, width: 8, widths: [4, 0, 0], low: 0 };
+        let spot =
+            Spot { operator, pairs: [Pair::free(4), Pair::default(), Pair::default()], values: [0; 3] };
+        members(&spot, Set::Inverse, 0, target)
+    };
+    assert_eq!([extend(0xf8), extend(0x07), extend(0x78)], [vec![8], vec![7], vec![]]);
+
+    let pair = |kind, a: Pair, b: Pair| pairs::result(&spot(kind, 4, a, 0).operator, [a, b, Pair::default()]);
+    let sign_free = Pair { lo: 0b0100, hi: 0b1100 };
+    assert_eq!(pair(Kind::Ashr, sign_free, Pair::fixed(2)), Pair { lo: 0b0001, hi: 0b1111 });
+    assert_eq!(pair(Kind::SignedBelow, Pair { lo: 8, hi: 15 }, Pair { lo: 0, hi: 7 }), Pair::fixed(1));
+    assert_eq!(pair(Kind::SignedBelow, sign_free, Pair::fixed(0)), Pair::free(1));
 }
 
 #[test]

@@ -46,7 +46,7 @@ pub fn hi(node: &Node) -> u64 {
 /// How many operands a kind has; none that is not there.
 #[inline]
 pub fn operands(kind: u8) -> usize {
-    const OPERANDS: [u8; COUNT as usize] = [0, 0, 1, 2, 2, 2, 2, 2, 2, 2, 2, 3, 2, 1];
+    const OPERANDS: [u8; COUNT as usize] = [0, 0, 1, 2, 2, 2, 2, 2, 2, 2, 2, 3, 2, 1, 2, 2, 1];
     OPERANDS.get(usize::from(kind)).map_or(0, |&count| count.into())
 }
 
@@ -151,10 +151,11 @@ pub fn widths_fit(kind: u8, w: u32, [a, b, c]: [u32; 3], low: u32) -> bool {
     match kind {
         VARIABLE | CONSTANT => true,
         NOT => a == w,
-        AND..=LSHR => a == w && b == w,
-        EQ | BELOW => a == b && w == 1,
+        AND..=LSHR | ASHR => a == w && b == w,
+        EQ | BELOW | SIGNED_BELOW => a == b && w == 1,
         IF => a == 1 && b == w && c == w,
         CONCAT => a + b == w,
+        SIGN_EXTEND => w > a,
         _ => low + w <= a,
     }
 }

@@ -34,8 +34,11 @@ pub mod kind {
     pub const IF: u8 = 11;
     pub const CONCAT: u8 = 12;
     pub const EXTRACT: u8 = 13;
+    pub const SIGNED_BELOW: u8 = 14;
+    pub const ASHR: u8 = 15;
+    pub const SIGN_EXTEND: u8 = 16;
     /// How many there are: refusal 7 begins at this number.
-    pub const COUNT: u8 = 14;
+    pub const COUNT: u8 = 17;
 }
 
 /// The `count` low bits, for any count up to 64.
@@ -46,6 +49,13 @@ pub(crate) fn low_bits(count: u32) -> u64 {
     } else {
         (1 << count) - 1
     }
+}
+
+/// A word of `from` bits, its top bit repeated in front of it up to bit 63.
+#[inline]
+pub(crate) fn sign_extended(v: u64, from: u32) -> u64 {
+    let above = 64 - from;
+    ((v << above) as i64 >> above) as u64
 }
 
 /// The bits of a width of 1 to 64.

@@ -2,7 +2,7 @@
 
 use crate::kind::*;
 use crate::member::Part;
-use crate::{low_bits, mask};
+use crate::{low_bits, mask, sign_extended};
 
 /// A node taken out of its problem: its operator, and each operand's width, pair and current value.
 #[derive(Clone, Copy, Debug, Default)]
@@ -48,6 +48,17 @@ pub fn pick_inverse(spot: &Spot, position: usize, t: u64, p: u64) -> Option<u64>
         (IF, _) => pick_branch(x, a == 0, b, t, p),
         (CONCAT, 0) => pick_half(x, t >> spot.widths[1], b == t & mask(spot.widths[1])),
         (CONCAT, _) => pick_half(x, t & mask(spot.widths[1]), a == t >> spot.widths[1]),
+        (SIGNED_BELOW, _) => pick_signed(x, spot.widths[0], position, other, t, p),
+        (ASHR, 0) => pick_kept(x, w, b.min(u64::from(w - 1)) as u32, t)?.pick(p),
+        (ASHR, _) => {
+            // A shift of the complement is the complement of the shift, and fills with zeros.
+            let turn = if a >> (w - 1) == 1 { mask(w) } else { 0 };
+            pick_right_amount(x, a ^ turn, t ^ turn, p)
+        }
+        (SIGN_EXTEND, _) => {
+            let part = t & mask(spot.widths[0]);
+            x.only(part).filter(|_| sign_extended(part, spot.widths[0]) & mask(w) == t)
+        }
         _ => x.with(mask(w) << spot.low, t << spot.low).pick(p),
     }
 }
@@ -78,6 +89,13 @@ pub fn pick_consistent(spot: &Spot, position: usize, t: u64, p: u64) -> Option<u
         (BELOW, _) => x.pick(p),
         (CONCAT, 0) => x.only(t >> spot.widths[1]),
         (CONCAT, _) => x.only(t & mask(spot.widths[1])),
+        (SIGNED_BELOW, _) if t == 0 => x.pick(p),
+        // Every number but the greatest is below another, every one but the least above another.
+        (SIGNED_BELOW, 0) => pick_except(x, mask(spot.widths[0]) >> 1, p),
+        (SIGNED_BELOW, _) => pick_except(x, 1 << (spot.widths[1] - 1), p),
+        (ASHR, 0) => pick_of_all((0..signs(t, w)).filter_map(|by| pick_kept(x, w, by, t)), p),
+        (ASHR, _) if signs(t, w) == w => x.pick(p),
+        (ASHR, _) => x.up_to(u64::from(signs(t, w)) - 1).pick(p),
         _ => pick_inverse(spot, position, t, p),
     }
 }
@@ -90,6 +108,7 @@ pub fn essential(spot: &Spot, position: usize, t: u64) -> bool {
     let reached = match (spot.kind, position) {
         (NOT, _) => !mine & mask(spot.width) == t,
         (EXTRACT, _) => mine >> spot.low & mask(spot.width) == t,
+        (SIGN_EXTEND, _) => sign_extended(mine, spot.widths[0]) & mask(spot.width) == t,
         (IF, 0) => agrees(2 - mine as usize, t),
         (IF, 1) => spot.hi[0] == 1 && mine == t || spot.lo[0] == 0 && agrees(2, t),
         (IF, _) => spot.lo[0] == 0 && mine == t || spot.hi[0] == 1 && agrees(1, t),
@@ -217,6 +236,47 @@ fn pick_above(x: Part, s: u64, t: u64, p: u64) -> Option<u64> {
     } else {
         x.up_to(s).pick(p)
     }
+}
+
+/// How many bits from the top are like the top one.
+#[inline]
+fn signs(t: u64, w: u32) -> u32 {
+    let turned = if t >> (w - 1) == 1 { !t & mask(w) } else { t };
+    turned.leading_zeros() - (64 - w)
+}
+
+/// x ashr by = t, by below the width: the high bits of x are given, where t begins with copies of one bit.
+#[inline]
+fn pick_kept(x: Part, w: u32, by: u32, t: u64) -> Option<Part> {
+    if by >= signs(t, w) {
+        return None;
+    }
+    Some(x.with(mask(w) & !low_bits(by), t << by))
+}
+
+/// (x slt s) = t at position 0, (s slt x) = t at position 1. With the top bits turned the signed order is
+/// the unsigned one, and the members are those between two words.
+#[inline]
+fn pick_signed(x: Part, w: u32, position: usize, s: u64, t: u64, p: u64) -> Option<u64> {
+    let top = 1 << (w - 1);
+    let s = s ^ top;
+    match (position, t) {
+        (0, 1) => pick_turned(x, top, 0, s.checked_sub(1)?, p),
+        (0, _) => pick_turned(x, top, s, mask(w), p),
+        (_, 1) if s == mask(w) => None,
+        (_, 1) => pick_turned(x, top, s + 1, mask(w), p),
+        _ => pick_turned(x, top, 0, s, p),
+    }
+}
+
+/// Members that lie between two words once their top bits are turned. Those with a top bit of 0 come first.
+#[inline]
+fn pick_turned(x: Part, top: u64, least: u64, most: u64, p: u64) -> Option<u64> {
+    let low = if most >= top { x.from(least.max(top) ^ top).up_to(most ^ top) } else { x.from(1).up_to(0) };
+    let high =
+        if least < top { x.from(least ^ top).up_to(most.min(top - 1) ^ top) } else { x.from(1).up_to(0) };
+    let next = |p: u64| low.next(p).or_else(|| high.next(p));
+    next(p).or_else(|| next(0))
 }
 
 /// A condition, where the target is the value of the first branch, of the second, or of both.

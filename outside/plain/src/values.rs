@@ -2,7 +2,7 @@
 
 use crate::kind::*;
 use crate::layout::{field, hi, kind, lo, width, Node, MOST_NODES};
-use crate::{low_bits, mask};
+use crate::{low_bits, mask, sign_extended};
 
 /// Sets every node's value from the variables'. The values have one place for each node.
 pub fn evaluate(nodes: &[Node], values: &mut [u64]) {
@@ -24,6 +24,13 @@ pub fn evaluate(nodes: &[Node], values: &mut [u64]) {
             IF if at(0) == 1 => at(1),
             IF => at(2),
             CONCAT => at(0) << width(&nodes[field(node, 1)]) | at(1),
+            SIGNED_BELOW => {
+                let from = width(&nodes[field(node, 0)]);
+                let number = |position: usize| sign_extended(at(position), from) as i64;
+                u64::from(number(0) < number(1))
+            }
+            ASHR => ashr(at(0), at(1), w),
+            SIGN_EXTEND => sign_extended(at(0), width(&nodes[field(node, 0)])) & mask(w),
             _ => at(0) >> field(node, 1) & mask(w),
         };
         values[id] = value;
@@ -46,6 +53,11 @@ fn lshr(v: u64, by: u64, w: u32) -> u64 {
     } else {
         v >> by
     }
+}
+
+#[inline]
+fn ashr(v: u64, by: u64, w: u32) -> u64 {
+    (sign_extended(v, w) as i64 >> by.min(63)) as u64 & mask(w)
 }
 
 /// The pairs of all nodes.
@@ -89,15 +101,27 @@ fn pair(nodes: &[Node], node: &Node, pairs: &Pairs) -> (u64, u64) {
             };
             (value & fixed, value & fixed | all & !fixed)
         }
-        SHL | LSHR if lo_of(1) != hi_of(1) => (0, all),
+        SHL | LSHR | ASHR if lo_of(1) != hi_of(1) => (0, all),
         SHL => (shl(lo_of(0), lo_of(1), w), shl(hi_of(0), lo_of(1), w)),
         LSHR => (lshr(lo_of(0), lo_of(1), w), lshr(hi_of(0), lo_of(1), w)),
+        ASHR => (ashr(lo_of(0), lo_of(1), w), ashr(hi_of(0), lo_of(1), w)),
         EQ => {
             let open = lo_of(0) ^ hi_of(0) | lo_of(1) ^ hi_of(1);
             let apart = (lo_of(0) ^ lo_of(1)) & !open != 0;
             one_bit(open == 0 && !apart, apart)
         }
         BELOW => one_bit(hi_of(0) < lo_of(1), lo_of(0) >= hi_of(1)),
+        SIGNED_BELOW => {
+            // With the top bits turned, the signed order is the unsigned one.
+            let top = 1 << (width(&nodes[field(node, 0)]) - 1);
+            let least = |position: usize| (lo_of(position) | hi_of(position) & top) ^ top;
+            let most = |position: usize| hi_of(position) & (lo_of(position) | !top) ^ top;
+            one_bit(most(0) < least(1), least(0) >= most(1))
+        }
+        SIGN_EXTEND => {
+            let from = width(&nodes[field(node, 0)]);
+            (sign_extended(lo_of(0), from) & all, sign_extended(hi_of(0), from) & all)
+        }
         IF => match (lo_of(0), hi_of(0)) {
             (1, _) => (lo_of(1), hi_of(1)),
             (_, 0) => (lo_of(2), hi_of(2)),

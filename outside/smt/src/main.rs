@@ -43,12 +43,9 @@ fn compare(line: &Line) -> Result<(), String> {
         println!("the proved library is not linked: the model stands in for it");
     }
     let difference = |d: String| format!("difference: {d}");
-    let start = Instant::now();
-    let counts = terms::compare(line.terms, line.seed).map_err(difference)?;
-    let shown: Vec<String> =
-        Kind::ALL.iter().zip(counts).map(|(kind, count)| format!("{} {count}", kind.name())).collect();
-    let (all, kinds) = (counts.iter().sum::<u64>(), shown.join(", "));
-    println!("nodes whose value z3 confirmed: {all} ({kinds}), {}", seconds(start));
+    let counts = terms(line, &Kind::ALL).map_err(difference)?;
+    // Those that were added later, by themselves: more of each.
+    terms(line, &Kind::ALL[Kind::SignedBelow as usize..]).map_err(difference)?;
     let start = Instant::now();
     let confirmed = models::compare(line.models, line.seed).map_err(difference)?;
     println!("models that z3 confirmed: {confirmed} of {} problems, {}", line.models, seconds(start));
@@ -62,6 +59,17 @@ fn compare(line: &Line) -> Result<(), String> {
         return Err("something was never reached".into());
     }
     Ok(())
+}
+
+/// Terms over some kinds.
+fn terms(line: &Line, kinds: &[Kind]) -> Result<terms::Counts, String> {
+    let start = Instant::now();
+    let counts = terms::compare(line.terms, line.seed, kinds)?;
+    let shown: Vec<String> =
+        kinds.iter().map(|&kind| format!("{} {}", kind.name(), counts[kind as usize])).collect();
+    let all: u64 = kinds.iter().map(|&kind| counts[kind as usize]).sum();
+    println!("nodes whose value z3 confirmed: {all} ({}), {}", shown.join(", "), seconds(start));
+    Ok(counts)
 }
 
 fn seconds(since: Instant) -> String {

@@ -14,15 +14,15 @@ struct Evaluated {
     values: Vec<u64>,
 }
 
-/// Compares `problems` random problems in one run of z3.
-pub fn compare(problems: u64, seed: u64) -> Result<Counts, String> {
+/// Compares `problems` random problems over some kinds in one run of z3.
+pub fn compare(problems: u64, seed: u64, kinds: &[Kind]) -> Result<Counts, String> {
     let mut evaluated = Vec::new();
     let mut text = String::from("(set-logic QF_BV)\n");
     let mut questions = String::new();
     for index in 0..problems {
         let rng = &mut Rng::of_case(seed, index);
         let size = rng.between(4, 40);
-        let problem = random::nodes(rng, size).problem;
+        let problem = random::nodes_of(rng, size, kinds).problem;
         let start = solved::values(rng, &problem);
         let mut found = start.clone();
         verdict(walumpeh::run(&problem.bytes(), &mut found, &[], 0))

@@ -6,6 +6,7 @@
 //! six = const 4 6        # also 0x6, 0b0110
 //! p   = mul x six        # the width follows from the operands
 //! q   = extract p 1 2    # from bit 1, two bits
+//! s   = sext 8 p         # 8 bits, the top bit repeated in front
 //! ok  = eq p y
 //! root ok
 //! ```
@@ -100,6 +101,17 @@ impl Draft {
                 }
                 self.builder.extract(from, low, width)
             }
+            (Kind::SignExtend, [bits, from]) => {
+                let (width, from) = (width(bits)?, self.id(from)?);
+                if width <= self.builder.width(from) {
+                    return Err(format!(
+                        "a node of {} bits is not extended to {width}",
+                        self.builder.width(from)
+                    ));
+                }
+                self.builder.sign_extend(from, width)
+            }
+            (Kind::SignExtend, _) => return Err(format!("expected: {}", usage(kind))),
             (_, names) if names.len() == kind.operands() && !names.is_empty() => {
                 let operands = names.iter().map(|name| self.id(name)).collect::<Result<Vec<_>, _>>()?;
                 self.builder.node(kind, &operands)
@@ -130,6 +142,7 @@ fn usage(kind: Kind) -> String {
         Kind::Variable => "var WIDTH, or var WIDTH DIGITS with 0, 1 or * for each bit".into(),
         Kind::Constant => "const WIDTH VALUE".into(),
         Kind::Extract => "extract NODE LOWEST-BIT WIDTH".into(),
+        Kind::SignExtend => "sext WIDTH NODE".into(),
         _ => format!("{}{}", kind.name(), [" A", " A B", " A B C"][kind.operands() - 1]),
     }
 }
@@ -205,6 +218,9 @@ mod tests {
             ("x = var 4\ny = extract x 3 2", "line 2: 2 bits from bit 3 are not in a node of 4 bits"),
             ("x = var 4\nroot x", "line 2: root 'x' has 4 bits, not 1"),
             ("x = var 1\ny = var 1\nroot x y\nroot x", "line 4: root 'x' stands above already"),
+            ("x = var 4\ny = sext 4 x", "line 2: a node of 4 bits is not extended to 4"),
+            ("x = var 4\ny = sext x", "line 2: expected: sext WIDTH NODE"),
+            ("x = var 4\ny = var 5\nz = slt x y", "line 3: slt does not take operands of 4, 5 bits"),
             ("x = nand y y", "line 1: no kind 'nand'"),
             ("x var 4", "line 1: neither 'NAME = KIND ..' nor 'root NODE..'"),
             ("x = var 1\n\nroot # x", "line 3: expected: root NODE.."),

@@ -123,6 +123,7 @@ impl Raw {
             Kind::Variable => format!("{id} = {name} {w}"),
             Kind::Constant => format!("{id} = {name} {w} {}", self.pair.lo),
             Kind::Extract => format!("{id} = {name} {a} {b} {w}"),
+            Kind::SignExtend => format!("{id} = {name} {w} {a}"),
             _ => match kind.operands() {
                 1 => format!("{id} = {name} {a}"),
                 2 => format!("{id} = {name} {a} {b}"),

@@ -72,6 +72,12 @@ fn term(problem: &Problem, id: usize, prefix: &str) -> String {
             let low = u32::from(node.fields[1]);
             format!("((_ extract {} {low}) {a})", low + node.width - 1)
         }
+        Kind::SignedBelow => bit(format!("(bvslt {a} {b})")),
+        Kind::Ashr => format!("(bvashr {a} {b})"),
+        Kind::SignExtend => {
+            let front = node.width - problem.nodes[node.fields[0] as usize].width;
+            format!("((_ sign_extend {front}) {a})")
+        }
     }
 }
 
@@ -98,6 +104,18 @@ pub fn values(ids: impl Iterator<Item = usize>, prefix: &str) -> String {
 #[cfg(test)]
 mod tests {
     use super::*;
+
+    #[test]
+    fn signed_kinds() {
+        let problem = crate::form::parse("x = var 4\ny = slt x x\nz = ashr x x\nw = sext 7 x\n").unwrap();
+        let expected = "\
+(declare-fun n0 () (_ BitVec 4))
+(define-fun n1 () (_ BitVec 1) (ite (bvslt n0 n0) (_ bv1 1) (_ bv0 1)))
+(define-fun n2 () (_ BitVec 4) (bvashr n0 n0))
+(define-fun n3 () (_ BitVec 7) ((_ sign_extend 3) n0))
+";
+        assert_eq!(nodes(&problem, "", Variables::Open), expected);
+    }
 
     #[test]
     fn the_worked_example() {
