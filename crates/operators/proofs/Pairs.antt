@@ -8,8 +8,8 @@ use lib.Count.{trailingZeros}
 use lib.Pow.{pow-pos, pow-mono}
 use Rattle.words.specs.laws.Zeros.{trailing-min}
 use Rattle.operators.specs.declared.fixed.Pair.{Pair}
-use Rattle.operators.specs.Fixed.{pair, either, branch, upTo, lowest, signedLeast, signedMost, sltPair}
-use Rattle.operators.specs.Meaning.{signedLess}
+use Rattle.operators.specs.Fixed.{pair, either, fixed, anyOf, branch, upTo, lowest, signedLeast, signedMost, sltPair, udivPair}
+use Rattle.operators.specs.Meaning.{signedLess, quotient}
 use Rattle.operators.specs.inner.Ready.{Used, Ordered}
 use Rattle.operators.specs.laws.Sound.{lowest-le, lo-lt}
 use Rattle.operators.proofs.Parts.{recut}
@@ -63,3 +63,17 @@ module _ (w : ℕ) (p q : Pair) where
 
   pub slt-no : signedLess w (signedMost w p) (signedLeast w q) ≡ false → signedLess w (signedLeast w p) (signedMost w q) ≡ false → pair 0 0 ≡ sltPair w p q
   slt-no e f = ap₂ tests (sym e) (sym f)
+
+-- division, by its two tests
+module _ (w : ℕ) (p q : Pair) where
+  abbrev quotients : Bool → Bool → ℕ → Pair
+  quotients s t v = either s (either t (pair v v) (anyOf w)) (anyOf w)
+
+  pub udiv-fixed : {r : ℕ} → fixed p ≡ true → fixed q ≡ true → r ≡ quotient w (p .lo) (q .lo) → pair r r ≡ udivPair w p q
+  udiv-fixed e f g = ap (λ (v : ℕ). pair v v) g ∙ ap₂ (λ (s t : Bool). quotients s t (quotient w (p .lo) (q .lo))) (sym e) (sym f)
+
+  pub udiv-half : fixed p ≡ true → fixed q ≡ false → anyOf w ≡ udivPair w p q
+  udiv-half e f = ap₂ (λ (s t : Bool). quotients s t (quotient w (p .lo) (q .lo))) (sym e) (sym f)
+
+  pub udiv-free : fixed p ≡ false → anyOf w ≡ udivPair w p q
+  udiv-free e = ap (λ (s : Bool). quotients s (fixed q) (quotient w (p .lo) (q .lo))) (sym e)

@@ -1,4 +1,4 @@
--- Document 01, "Fixed bits of inner nodes", and the same of 02's R-1: the pair of a node, from its operands' pairs.
+-- Document 01, "Fixed bits of inner nodes", and the same of 02's R-1 and R-11: the pair of a node, from its operands' pairs.
 use mathlib.Core.Bool.{Bool, true, false}
 use Prim.Native.Nat.{ℕ, zero, suc, _+_, _-_, _*_, _/_, _%_, _^_}
 use lib.Bits.{bitAnd, bitOr, bitXor}
@@ -6,8 +6,8 @@ use lib.Count.{trailingZeros}
 use lib.Dec.{eqb, leb, ltb}
 use Rattle.words.specs.inner.Words.{over}
 use Rattle.operators.specs.declared.fixed.Pair.{Pair}
-use Rattle.operators.specs.Table.{Kind, variable, constant, inv, conj, xor, add, mul, shl, lshr, eq, below, ite, concat, extract, slt, ashr, sext}
-use Rattle.operators.specs.Meaning.{signedLess, signedShift, extended}
+use Rattle.operators.specs.Table.{Kind, variable, constant, inv, conj, xor, add, mul, shl, lshr, eq, below, ite, concat, extract, slt, ashr, sext, udiv}
+use Rattle.operators.specs.Meaning.{signedLess, signedShift, extended, quotient}
 
 abbrev pub pair : ℕ → ℕ → Pair
 pair l h = record { lo = l; hi = h }
@@ -97,6 +97,10 @@ ashrPair w p q = either (fixed q) (pair (signedShift w (p .lo) (q .lo)) (signedS
 abbrev pub sextPair : ℕ → ℕ → Pair → Pair
 sextPair wa w p = pair (extended wa w (p .lo)) (extended wa w (p .hi))
 
+-- division (02, R-11): "the quotient if both sides are fully fixed, else free"
+abbrev pub udivPair : ℕ → Pair → Pair → Pair
+udivPair w p q = either (fixed p) (either (fixed q) (pair (quotient w (p .lo) (q .lo)) (quotient w (p .lo) (q .lo))) (anyOf w)) (anyOf w)
+
 -- the pair of an inner node whose operands have the pairs p, q, r
 abbrev pub pairOf : Kind → ℕ → ℕ → ℕ → ℕ → Pair → Pair → Pair → Pair
 pairOf variable w wa wb low p q r = pair 0 0
@@ -116,3 +120,4 @@ pairOf extract w wa wb low p q r = pair (p .lo / 2 ^ low % 2 ^ w) (p .hi / 2 ^ l
 pairOf slt w wa wb low p q r = sltPair wa p q
 pairOf ashr w wa wb low p q r = ashrPair w p q
 pairOf sext w wa wb low p q r = sextPair wa w p
+pairOf udiv w wa wb low p q r = udivPair w p q

@@ -7,8 +7,8 @@ use lib.Bits.{bitAnd, bitXor}
 use lib.Dec.{eqb, ltb}
 use Rattle.words.specs.Bits.{bit}
 use Rattle.operators.specs.declared.table.Rule.{Rule}
-use Rattle.operators.specs.declared.table.Rule.the-variants.{Free, One, Both, Equal, Choice, Sum, Part, Longer}
-use Rattle.operators.specs.Table.{Kind, variable, constant, inv, conj, xor, add, mul, shl, lshr, eq, below, ite, concat, extract, slt, ashr, sext}
+use Rattle.operators.specs.declared.table.Rule.the-variants.{Free, One, Both, Equal, Choice, Sum, Part, Longer, Narrow}
+use Rattle.operators.specs.Table.{Kind, variable, constant, inv, conj, xor, add, mul, shl, lshr, eq, below, ite, concat, extract, slt, ashr, sext, udiv}
 
 -- the one bit that tells a test
 abbrev pub flag : Bool → ℕ
@@ -45,6 +45,16 @@ signedShift w x y = choose (sign w x) ((2 ^ w - 1) - ((2 ^ w - 1) - x) / 2 ^ y) 
 abbrev pub extended : ℕ → ℕ → ℕ → ℕ
 extended wa w x = sign wa x * (2 ^ (w - wa) - 1) * 2 ^ wa + x
 
+-- ---- division (02, R-11)
+
+-- bvudiv: all ones for a zero divisor
+abbrev pub quotient : ℕ → ℕ → ℕ → ℕ
+quotient w x y = choose y (x / y) (2 ^ w - 1)
+
+-- bvurem: the dividend for a zero divisor
+abbrev pub remainder : ℕ → ℕ → ℕ
+remainder x y = choose y (x % y) x
+
 -- ---- by kind
 
 -- "Sums and products are taken modulo 2^w. A shift by w or more gives 0." (Variables and constants have no operator.)
@@ -66,6 +76,7 @@ meaning extract w wa wb low x y z = x / 2 ^ low % 2 ^ w
 meaning slt w wa wb low x y z = flag (signedLess wa x y)
 meaning ashr w wa wb low x y z = signedShift w x y
 meaning sext w wa wb low x y z = extended wa w x
+meaning udiv w wa wb low x y z = quotient w x y
 
 -- the operands' values x, y, z are of the widths that the width rule gives them
 abbrev pub Fit : Rule → ℕ → ℕ → ℕ → ℕ → ℕ → ℕ → ℕ → Type 0
@@ -77,3 +88,4 @@ Fit Choice w wa wb low x y z = (x < 2) × (y < 2 ^ w) × (z < 2 ^ w)
 Fit Sum w wa wb low x y z = (wa + wb ≡ w) × (1 ≤ wa) × (x < 2 ^ wa) × (y < 2 ^ wb)
 Fit Part w wa wb low x y z = (low + w ≤ wa) × (wa ≤ 64) × (x < 2 ^ wa)
 Fit Longer w wa wb low x y z = (1 ≤ wa) × (wa < w) × (x < 2 ^ wa)
+Fit Narrow w wa wb low x y z = (x < 2 ^ w) × (y < 2 ^ w)

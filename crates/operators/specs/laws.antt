@@ -1,5 +1,6 @@
 -- Laws of the definitions, for proofs. Nothing here has to be read to know what is promised.
 pub mod Arms
+pub mod Division
 pub mod Meaning
 pub mod Signed
 pub mod Sound

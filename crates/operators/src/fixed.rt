@@ -5,6 +5,7 @@ use crate::meaning::join;
 use crate::meaning::left;
 use crate::meaning::ones;
 use crate::meaning::part;
+use crate::meaning::quotient;
 use crate::meaning::right;
 use crate::signed::extend;
 use crate::signed::less_signed;
@@ -12,7 +13,7 @@ use crate::signed::right_signed;
 ghost use mathlib.Core.Path.{_≡_};
 ghost use Prim.Native.Nat.{_^_, _≤_, _<_};
 ghost use Rattle.operators.specs.Table.{kindOf};
-ghost use Rattle.operators.specs.Fixed.{anyOf, known, lowest, upTo, apart, eqPair, belowPair, shlPair, lshrPair, itePair, signOver, sltPair, ashrPair, sextPair, pairOf};
+ghost use Rattle.operators.specs.Fixed.{anyOf, known, lowest, upTo, apart, eqPair, belowPair, shlPair, lshrPair, itePair, signOver, sltPair, ashrPair, sextPair, udivPair, pairOf};
 ghost use Rattle.operators.specs.Meaning.{signedLess};
 ghost use Rattle.operators.specs.inner.Ready.{Ternary, PairsReady};
 
@@ -210,6 +211,23 @@ fn sext_pair(p: Pair, k: u32, w: u32) -> Pair
     }
 }
 
+// Division: the quotient where both sides are fully fixed, else free.
+fn udiv_pair(p: Pair, q: Pair, w: u32) -> Pair
+    requires { ⌜ w ≤ 64 ⌝ }
+    ensures { λ r. ⌜ r ≡ udivPair w p q ⌝ }
+{
+    let a = p.lo;
+    let b = q.lo;
+    if a == p.hi {
+        if b == q.hi {
+            let v = quotient(a, b, w);
+            return Pair { lo: v, hi: v };
+        }
+        return any_of(w);
+    }
+    any_of(w)
+}
+
 // The pair of an inner node, from its operands' pairs.
 pub fn pair_of(op: Op, p: Pair, q: Pair, r: Pair) -> Pair
     requires { ⌜ PairsReady op p q r ⌝ }
@@ -248,6 +266,7 @@ pub fn pair_of(op: Op, p: Pair, q: Pair, r: Pair) -> Pair
         14 => slt_pair(p, q, j),
         15 => ashr_pair(p, q, w),
         16 => sext_pair(p, j, w),
-        0..=1 | 17..=255 => Pair { lo: 0, hi: 0 },
+        17 => udiv_pair(p, q, w),
+        0..=1 | 18..=255 => Pair { lo: 0, hi: 0 },
     }
 }

@@ -13,6 +13,7 @@ pub use meaning::join;
 pub use meaning::left;
 pub use meaning::part;
 pub use meaning::product;
+pub use meaning::quotient;
 pub use meaning::right;
 pub use meaning::sum;
 pub use signed::below_signed;

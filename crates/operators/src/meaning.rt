@@ -1,6 +1,7 @@
 // What the operators give on their operands' values, in word operations: those that take more than one. `evaluation` chooses by kind.
 ghost use mathlib.Core.Path.{_≡_};
 ghost use Prim.Native.Nat.{_+_, _-_, _*_, _/_, _%_, _^_, _≤_, _<_};
+ghost use Rattle.operators.specs.Meaning.{quotient as quotientOf};
 
 // An operator in its place: its kind, its node's width, the widths of operands a and b, and its lowest bit (extract).
 pub struct Op {
@@ -60,6 +61,17 @@ pub fn right(a: u64, b: u64) -> u64
     ensures { λ r. ⌜ r ≡ a / 2 ^ b ⌝ }
 {
     if b < 64 { a >> b } else { 0 }
+}
+
+// a divided by b, of w bits: all ones for b = 0.
+pub fn quotient(a: u64, b: u64, w: u32) -> u64
+    requires { ⌜ w ≤ 64 ⌝ }
+    ensures { λ r. ⌜ r ≡ quotientOf w a b ⌝ }
+{
+    if b == 0 {
+        return ones(w);
+    }
+    a / b
 }
 
 // a above the k bits of b.

@@ -20,6 +20,8 @@ pub enum Rule {
     Part,
     // sext: w greater than a's width
     Longer,
+    // udiv: both w; w at most 16
+    Narrow,
 }
 
 // What a kind uses: so many operands, so many of the fields a, b, c, and its width rule.
@@ -30,7 +32,7 @@ pub struct Shape {
 }
 
 // How many kinds there are: who asks whether a number is a kind's reads this.
-pub const KINDS: u8 = 17;
+pub const KINDS: u8 = 18;
 
 const SHAPES: [Shape; KINDS as usize] = [
     // 0 variable, 1 constant
@@ -130,6 +132,12 @@ const SHAPES: [Shape; KINDS as usize] = [
         fields: 1,
         rule: Rule::Longer,
     },
+    // 17 udiv
+    Shape {
+        operands: 2,
+        fields: 2,
+        rule: Rule::Narrow,
+    },
 ];
 
 // The row of a kind; a number that is no kind's has the row of a variable.
@@ -154,8 +162,8 @@ pub fn operand_count(kind: u8) -> u8
     match kind {
         2 | 13 | 16 => 1,
         11 => 3,
-        3..=10 | 12 | 14..=15 => 2,
-        0..=1 | 17..=255 => 0,
+        3..=10 | 12 | 14..=15 | 17 => 2,
+        0..=1 | 18..=255 => 0,
     }
 }
 
@@ -172,5 +180,6 @@ pub fn rule_holds(rule: Rule, w: u8, wa: u8, wb: u8, wc: u8, b: u16) -> bool
         Rule::Sum => (wa as u16) + (wb as u16) == (w as u16),
         Rule::Part => (b as u32) + (w as u32) <= (wa as u32),
         Rule::Longer => wa < w,
+        Rule::Narrow => (wa == w) & (wb == w) & (w <= 16),
     }
 }

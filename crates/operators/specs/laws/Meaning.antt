@@ -1,6 +1,6 @@
 -- Laws of the operators' meaning, over the width: the value is of the node's width, and only the operands that the kind has bear on it.
 use mathlib.Core.Path.{_≡_, refl, sym, ap, ap₂, _∙_}
-use mathlib.Core.Bool.{Bool, true, false}
+use mathlib.Core.Bool.{Bool, true, false, false≢true}
 use Prim.Native.Nat.{ℕ, zero, suc, _+_, _*_, _/_, _^_, _≤_, _<_}
 use native.Mathlib.Nat.{le-of-lt, mod-lt, lt-of-le-of-lt}
 use native.Mathlib.Omega.{arith}
@@ -10,10 +10,12 @@ use lib.Dec.{eqb, ltb, leb}
 use lib.Pow.{pow-pos, pow-mono, pow-add, ones-sub-lt, shr-le}
 use borrow.Author.Tests.{leb-true}
 use Rattle.operators.specs.declared.table.Rule.{Rule}
-use Rattle.operators.specs.declared.table.Rule.the-variants.{Free, One, Both, Equal, Choice, Sum, Part, Longer}
-use Rattle.operators.specs.Table.{Kind, variable, constant, inv, conj, xor, add, mul, shl, lshr, eq, below, ite, concat, extract, slt, ashr, sext, shape, RuleMet}
+use Rattle.operators.specs.declared.table.Rule.the-variants.{Free, One, Both, Equal, Choice, Sum, Part, Longer, Narrow}
+use Rattle.operators.specs.Table.{Kind, variable, constant, inv, conj, xor, add, mul, shl, lshr, eq, below, ite, concat, extract, slt, ashr, sext, udiv, shape, RuleMet}
+use Rattle.operators.specs.laws.Table.{evenly}
 use Rattle.operators.specs.Meaning.{flag, choose, signedLess, meaning, Fit}
 use Rattle.operators.specs.laws.Signed.{ashr-lt, extended-lt}
+use Rattle.operators.specs.laws.Division.{quotient-lt}
 use Rattle.operators.specs.inner.Ready.{Used}
 
 -- ---- the value of a node is of the node's width
@@ -48,6 +50,7 @@ meaning-lt extract w wa wb low x y z h f = mod-lt (x / 2 ^ low) (pow-pos w)
 meaning-lt slt w wa wb low x y z h f = flag-lt (signedLess wa x y) w h
 meaning-lt ashr w wa wb low x y z h f = ashr-lt w x y (f .0)
 meaning-lt sext w wa wb low x y z h f = extended-lt wa w (f .0) (le-of-lt (f .1)) (f .2)
+meaning-lt udiv w wa wb low x y z h f = quotient-lt w x y (f .0)
 
 -- ---- the width rule, and operands of their nodes' widths, make a fit
 
@@ -61,6 +64,7 @@ takes Choice = 3
 takes Sum = 2
 takes Part = 1
 takes Longer = 1
+takes Narrow = 2
 
 pub takes-is : (o : Kind) → takes (shape o .rule) ≡ shape o .operands
 takes-is variable = refl
@@ -80,6 +84,21 @@ takes-is extract = refl
 takes-is slt = refl
 takes-is ashr = refl
 takes-is sext = refl
+takes-is udiv = refl
+
+pub even-two : (o : Kind) → evenly (shape o .rule) ≡ true → shape o .operands ≡ 2
+even-two o e = sym (takes-is o) ∙ two (shape o .rule) e
+  where
+    two : (r : Rule) → evenly r ≡ true → takes r ≡ 2
+    two Free e = absurd (false≢true e)
+    two One e = absurd (false≢true e)
+    two Both e = refl
+    two Equal e = absurd (false≢true e)
+    two Choice e = absurd (false≢true e)
+    two Sum e = absurd (false≢true e)
+    two Part e = absurd (false≢true e)
+    two Longer e = absurd (false≢true e)
+    two Narrow e = refl
 
 -- a number below 2 ^ n, where n is m
 sized : {m n x : ℕ} → n ≡ m → x < 2 ^ n → x < 2 ^ m
@@ -95,6 +114,7 @@ fit-rule Choice w wa wb wc low x y z m h u = (sized (m .0) (u .a (omega arith)),
 fit-rule Sum w wa wb wc low x y z m h u = (m, h (omega arith) .0, u .a (omega arith), u .b (omega arith))
 fit-rule Part w wa wb wc low x y z m h u = (m, h (omega arith) .1, u .a (omega arith))
 fit-rule Longer w wa wb wc low x y z m h u = (h (omega arith) .0, m, u .a (omega arith))
+fit-rule Narrow w wa wb wc low x y z m h u = (sized (m .0) (u .a (omega arith)), sized (m .1) (u .b (omega arith)))
 
 -- for operands that the kind has; nothing is asked of the other positions
 pub fit-used : (o : Kind) (w wa wb wc low x y z : ℕ) → RuleMet (shape o .rule) w wa wb wc low → (1 ≤ shape o .operands → (1 ≤ wa) × (wa ≤ 64))
@@ -137,6 +157,7 @@ module _ (w wa wb low x y z : ℕ) where
   trimmed slt = refl
   trimmed ashr = refl
   trimmed sext = refl
+  trimmed udiv = refl
 
 -- their widths and values alone
 pub meaning-known : (o : Kind) (w wa wb low x y z wa′ wb′ x′ y′ z′ : ℕ)

@@ -19,11 +19,12 @@ use Rattle.words.specs.laws.Modular.{cut-cut, mul-cuts}
 use Rattle.words.specs.laws.Narrow.{over-div, over-mod, over-lt}
 use Rattle.words.specs.laws.Zeros.{trailing-bit}
 use Rattle.operators.specs.declared.fixed.Pair.{Pair}
-use Rattle.operators.specs.Table.{Kind, variable, constant, inv, conj, xor, add, mul, shl, lshr, eq, below, ite, concat, extract, slt, ashr, sext, shape}
-use Rattle.operators.specs.Meaning.{flag, choose, sign, signedLess, signedShift, extended, meaning, Fit}
+use Rattle.operators.specs.Table.{Kind, variable, constant, inv, conj, xor, add, mul, shl, lshr, eq, below, ite, concat, extract, slt, ashr, sext, udiv, shape}
+use Rattle.operators.specs.Meaning.{flag, choose, sign, signedLess, signedShift, extended, quotient, meaning, Fit}
 use Rattle.operators.specs.laws.Meaning.{joined-lt}
+use Rattle.operators.specs.laws.Division.{quotient-lt}
 use Rattle.operators.specs.laws.Signed.{halves, top-one, turned, Low, High, low-or-high, signed-order, ashr-low, ashr-high, some-bit, ashr-lt, extended-lt}
-use Rattle.operators.specs.Fixed.{pair, either, branch, freeOf, fixed, anyOf, known, lowest, upTo, apart, told, signOver, signedLeast, signedMost, sltPair, ashrPair, sextPair, pairOf}
+use Rattle.operators.specs.Fixed.{pair, either, branch, freeOf, fixed, anyOf, known, lowest, upTo, apart, told, signOver, signedLeast, signedMost, sltPair, ashrPair, sextPair, udivPair, pairOf}
 use Rattle.operators.specs.inner.Ready.{Used, Ordered, Ternary, Agreeing}
 
 -- lo is no greater than hi, so what bounds hi bounds lo
@@ -291,6 +292,15 @@ agrees-sext wa w p x h hp a =
     let hx = agrees-lt wa hp a in
     agrees-of-within (extended-within wa w h (lt-of-le-of-lt (within-le (lo-within a)) hx) hx (lo-within a)) (extended-within wa w h hx hp (within-hi a))
 
+-- ---- division
+
+pub agrees-udiv : (w : ℕ) (p q : Pair) (x y : ℕ) → p .hi < 2 ^ w → Agreeing p x → Agreeing q y → Agreeing (udivPair w p q) (quotient w x y)
+agrees-udiv w p q x y hp a b =
+    let v = quotient w (p .lo) (q .lo) in
+    let free = agrees-any w (quotient w x y) (quotient-lt w x y (agrees-lt w hp a)) in
+    agrees-either (fixed p) (either (fixed q) (pair v v) (anyOf w)) (anyOf w) (quotient w x y)
+    (λ t. agrees-either (fixed q) (pair v v) (anyOf w) (quotient w x y) (λ u. rw (agrees-fixed p x t a, agrees-fixed q y u b) (agrees-self v)) (λ u. free)) (λ t. free)
+
 -- ---- the law, for every operator
 
 pub sound : (o : Kind) (w wa wb low : ℕ) (p q r : Pair) (x y z : ℕ) → Fit (shape o .rule) w wa wb low (p .hi) (q .hi) (r .hi)
@@ -337,6 +347,7 @@ sound slt w wa wb low p q r x y z f u =
     agrees-slt wa p q x y (f .0) (f .2) (f .3) (within-trans (lo-within a) (within-hi a)) (within-trans (lo-within b) (within-hi b)) a b
 sound ashr w wa wb low p q r x y z f u = agrees-ashr w p q x y (f .0) (u .a (omega arith)) (u .b (omega arith))
 sound sext w wa wb low p q r x y z f u = agrees-sext wa w p x (f .0) (f .2) (u .a (omega arith))
+sound udiv w wa wb low p q r x y z f u = agrees-udiv w p q x y (f .0) (u .a (omega arith)) (u .b (omega arith))
 
 -- ---- the pair worked out is a ternary word of w bits
 
@@ -393,6 +404,10 @@ pair-short slt w wa wb low p q r h f u =
 pair-short ashr w wa wb low p q r h f u =
     either-short (fixed q) (pair (signedShift w (p .lo) (q .lo)) (signedShift w (p .hi) (q .lo))) (anyOf w) (2 ^ w) (ashr-lt w (p .hi) (q .lo) (f .0)) (ones-lt w)
 pair-short sext w wa wb low p q r h f u = extended-lt wa w (f .0) (le-of-lt (f .1)) (f .2)
+pair-short udiv w wa wb low p q r h f u =
+    let v = quotient w (p .lo) (q .lo) in
+    either-short (fixed p) (either (fixed q) (pair v v) (anyOf w)) (anyOf w) (2 ^ w)
+    (either-short (fixed q) (pair v v) (anyOf w) (2 ^ w) (quotient-lt w (p .lo) (q .lo) (lo-lt (u .a (omega arith)) (f .0))) (ones-lt w)) (ones-lt w)
 
 -- lo and hi are values that agree
 pub lo-agrees : {p : Pair} → Ordered p → Agreeing p (p .lo)

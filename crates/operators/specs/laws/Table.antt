@@ -4,14 +4,14 @@ use mathlib.Core.Bool.{Bool, true, false, _&&_, _||_, false≢true}
 use mathlib.Core.List.{List, [], _∷_}
 use Prim.Native.Nat.{ℕ, zero, suc, _+_, _≤_, _<_}
 use native.Mathlib.Nat.{not-suc-le-zero, le-of-suc-le-suc, not-le-of-lt}
-use lib.Dec.{T, eqb, eqb→eq, ltb, ltb→lt}
+use lib.Dec.{T, eqb, eqb→eq, leb, ltb, ltb→lt}
 use lib.ListN.{length, getD, List·getD-eq-default}
 use mir.Val.{hasKey}
 use types.Run.{OneOf, hit}
 use borrow.Author.Tests.{eqb-true, leb-true, ltb-true, eq-eqb, le-leb, lt-ltb}
 use Rattle.words.specs.laws.Cases.{every, every-at}
 use Rattle.operators.specs.declared.table.Rule.{Rule}
-use Rattle.operators.specs.declared.table.Rule.the-variants.{Free, One, Both, Equal, Choice, Sum, Part, Longer}
+use Rattle.operators.specs.declared.table.Rule.the-variants.{Free, One, Both, Equal, Choice, Sum, Part, Longer, Narrow}
 use Rattle.operators.specs.declared.table.Shape.{Shape}
 use Rattle.operators.specs.Table.{Kind, variable, kinds, kindCount, shape, shapeOf, RuleMet, ruleHolds}
 
@@ -103,6 +103,12 @@ rule-met Choice w wa wb wc b h =
 rule-met Sum w wa wb wc b h = eqb-true _ _ h
 rule-met Part w wa wb wc b h = leb-true _ _ h
 rule-met Longer w wa wb wc b h = ltb-true _ _ h
+rule-met Narrow w wa wb wc b h =
+    let l = both-left (eqb wa w && eqb wb w) (leb w 16) h in (
+      eqb-true _ _ (both-left (eqb wa w) (eqb wb w) l),
+      eqb-true _ _ (both-right (eqb wa w) (eqb wb w) l),
+      leb-true _ _ (both-right (eqb wa w && eqb wb w) (leb w 16) h),
+    )
 
 pub rule-tested : (r : Rule) (w wa wb wc b : ℕ) → RuleMet r w wa wb wc b → ruleHolds r w wa wb wc b ≡ true
 unfolding ruleHolds
@@ -114,3 +120,27 @@ rule-tested Choice w wa wb wc b h = both-of (both-of (eq-eqb _ _ (h .0)) (eq-eqb
 rule-tested Sum w wa wb wc b h = eq-eqb _ _ h
 rule-tested Part w wa wb wc b h = le-leb _ _ h
 rule-tested Longer w wa wb wc b h = lt-ltb _ _ h
+rule-tested Narrow w wa wb wc b h = both-of (both-of (eq-eqb _ _ (h .0)) (eq-eqb _ _ (h .1))) (le-leb _ _ (h .2))
+
+-- the rules by which both operands have the node's width
+abbrev pub evenly : Rule → Bool
+evenly Free = false
+evenly One = false
+evenly Both = true
+evenly Equal = false
+evenly Choice = false
+evenly Sum = false
+evenly Part = false
+evenly Longer = false
+evenly Narrow = true
+
+pub even-widths : (r : Rule) (w wa wb wc b : ℕ) → evenly r ≡ true → RuleMet r w wa wb wc b → (wa ≡ w) × (wb ≡ w)
+even-widths Free w wa wb wc b e m = absurd (false≢true e)
+even-widths One w wa wb wc b e m = absurd (false≢true e)
+even-widths Both w wa wb wc b e m = m
+even-widths Equal w wa wb wc b e m = absurd (false≢true e)
+even-widths Choice w wa wb wc b e m = absurd (false≢true e)
+even-widths Sum w wa wb wc b e m = absurd (false≢true e)
+even-widths Part w wa wb wc b e m = absurd (false≢true e)
+even-widths Longer w wa wb wc b e m = absurd (false≢true e)
+even-widths Narrow w wa wb wc b e m = (m .0, m .1)

@@ -1,6 +1,6 @@
--- The definition of the fixed bits, held against the sentences of documents 01 and 02 (R-1): for not, and, xor, concat, extract, signed below and sign
--- extension exactly the bits that the operator forces are fixed; for the others each sentence is a theorem, but for below, whose definition is the
--- sentence.
+-- The definition of the fixed bits, held against the sentences of documents 01 and 02 (R-1, R-11): for not, and, xor, concat, extract, signed below and sign
+-- extension exactly the bits that the operator forces are fixed; for the others each sentence is a theorem, but for below and division, whose definitions
+-- are the sentences.
 use mathlib.Core.Path.{_≡_, refl, sym, ap, ap₂, _∙_}
 use mathlib.Core.Bool.{Bool, true, false}
 use mathlib.Core.Logic.{_⊎_, inl, inr, ⊎-elim, _↔_}

@@ -84,6 +84,9 @@ sext-pair-requires c κs =
     let o = rw (c .match .keys15) at (c .before .pre .ordered) in
     (f .0, le-of-lt (f .1), r .wide, record { ordered = o .a (omega arith); short = f .2 })
 
+udiv-pair-requires : tie.Need-udiv-pair-requires
+udiv-pair-requires c κs = search needs
+
 returns : tie.Need-returns
 returns c = rw (c .before .before .match .keys1) (ap₂ pair (c .before .flip .ensures) (c .flip2 .ensures))
 
@@ -138,7 +141,10 @@ returns-15 : tie.Need-returns-15
 returns-15 c = rw (c .before .match .keys15) (c .sext-pair .ensures)
 
 returns-16 : tie.Need-returns-16
-returns-16 c = let r = c .before .pre .ready in absurd (none-left 2 _ (r .operator) (r .known) tt (c .match .rest))
+returns-16 c = rw (c .before .match .keys16) (c .udiv-pair .ensures)
+
+returns-17 : tie.Need-returns-17
+returns-17 c = let r = c .before .pre .ready in absurd (none-left 2 _ (r .operator) (r .known) tt (c .match .rest))
 
 pub pair-of-spec : {M : Type 1} → statement M
 pair-of-spec =
@@ -163,6 +169,7 @@ pair-of-spec =
     slt-pair-requires
     ashr-pair-requires
     sext-pair-requires
+    udiv-pair-requires
     returns
     returns-2
     returns-3
@@ -178,4 +185,5 @@ pair-of-spec =
     returns-13
     returns-14
     returns-15
-    returns-16)
+    returns-16
+    returns-17)

@@ -34,6 +34,9 @@ add-result-2 c = search needs
 enum-told-8 : tie.Need-enum-told-8
 enum-told-8 c = search needs
 
+enum-told-9 : tie.Need-enum-told-9
+enum-told-9 c = search needs
+
 returns : tie.Need-returns
 unfolding ruleHolds
 returns c = rw (c .enum-told .given .1)
@@ -66,6 +69,10 @@ returns-8 : tie.Need-returns-8
 unfolding ruleHolds
 returns-8 c = rw (c .enum-told8 .given .1)
 
+returns-9 : tie.Need-returns-9
+unfolding ruleHolds
+returns-9 c = rw (c .enum-told9 .given .1)
+
 pub rule-holds-spec : {M : Type 1} → statement M
 rule-holds-spec =
     tie.close
@@ -80,6 +87,7 @@ rule-holds-spec =
     enum-told-7
     add-result-2
     enum-told-8
+    enum-told-9
     returns
     returns-2
     returns-3
@@ -87,4 +95,5 @@ rule-holds-spec =
     returns-5
     returns-6
     returns-7
-    returns-8)
+    returns-8
+    returns-9)
