@@ -1,5 +1,5 @@
--- Document 01, "Refusal numbers, in order of checking", 1 to 13, and document 02's 16 after them: the lines of the table as lists,
--- and the first that is given.
+-- Document 01, "Refusal numbers, in order of checking", 1 to 13, and of document 02 20 (R-11), among the tests of a node, and 16 (R-5), after
+-- all: the lines of the table as lists, and the first that is given.
 use Prim.Native.Nat.{ℕ, zero, suc, _^_}
 use mathlib.Core.List.{List, [], _∷_}
 use mathlib.Core.Bool.{Bool, false, cond, not, _&&_, _||_}
@@ -49,6 +49,10 @@ firstBelow f (suc n) = firstBelow f n then f n
 unfoldable pub markWrong : List ℕ → Bool
 markWrong s = not (eqb (getD s 0 0) 84) || not (eqb (getD s 1 0) 66) || not (eqb (getD s 2 0) 86)
 
+-- 20 "kind 17 with a width over 16" (02, R-11)
+unfoldable pub divisionWide : Node → Bool
+divisionWide n = eqb (n .kind) 17 && ltb 16 (n .width)
+
 -- 9 "an operand's id is not below the node's own", of a node with so many operands and the id i
 unfoldable pub operandAbove : Node → ℕ → ℕ → Bool
 operandAbove n operands i = ltb 0 operands && leb i (n .a) || ltb 1 operands && leb i (n .b) || ltb 2 operands && leb i (n .c)
@@ -86,11 +90,13 @@ headerLines s =
 unfoldable pub headerFault : List ℕ → Checked
 headerFault s = firstOf 0 (headerLines s)
 
--- 7 to 12, of a node, its id i and the widths of the nodes that its fields a, b, c name
+-- 7 to 12, and 20 "tried between 8 and 9 on the same node, whose id is its place", of a node, its id i and the widths of the nodes that its fields a,
+-- b, c name
 unfoldable pub nodeLines : Node → ℕ → ℕ → ℕ → ℕ → List Line
 nodeLines n i wa wb wc =
     (7, leb kindCount (n .kind))
     ∷ (8, eqb (n .width) 0 || ltb 64 (n .width))
+    ∷ (20, divisionWide n)
     ∷ (9, operandAbove n (shapeOf (n .kind) .operands) i)
     ∷ (10, strayField n (shapeOf (n .kind) .fields))
     ∷ (11, not (ruleHolds (shapeOf (n .kind) .rule) (n .width) wa wb wc (n .b)))
@@ -122,7 +128,7 @@ repeatLines s j = (16, rootBefore s j (rootAt s j)) ∷ []
 unfoldable pub repeatFault : List ℕ → ℕ → Checked
 repeatFault s j = firstOf j (repeatLines s j)
 
--- "7 to 12 are tried node by node in ascending id, all six on one node before the next node; 13 by root in file order"; 16 "after
+-- "7 to 12 are tried node by node in ascending id, all six [and 20] on one node before the next node; 13 by root in file order"; 16 "after
 -- 13 has passed for all roots ..; first repeat in file order"
 unfoldable pub checked : List ℕ → Checked
 checked s =

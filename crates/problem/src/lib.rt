@@ -1,4 +1,4 @@
-// Reading a problem, and the problem check: refusals 1 to 13 of document 01 and 16 of document 02.
+// Reading a problem, and the problem check: refusals 1 to 13 of document 01 and 16 and 20 of document 02.
 // Callers write problem::check, problem::node_at: the modules are for the reader.
 ghost use mathlib.Core.Path.{_≡_};
 ghost use Rattle.problem.specs.Refusals.{checked};
@@ -35,7 +35,7 @@ pub enum Checked {
     Refused(Refusal),
 }
 
-// The problem check: accepted, or the first refusal of 1 to 13 and 16 and its place. The header is tried first, then the nodes
+// The problem check: accepted, or the first refusal of 1 to 13, 16 and 20, and its place. The header is tried first, then the nodes
 // in ascending id, then the roots in file order, and then once more for repeats.
 pub fn check(problem: &[u8]) -> Checked
     ensures { λ r. ⌜ r ≡ checked (now (problem .entry)) ⌝ }

@@ -1,11 +1,11 @@
-// Document 01's table of refusals, 1 to 13: a test for each line, and the first line that is given.
+// The table of refusals, 1 to 13 of document 01 and 20 of 02: a test for each line, and the first line that is given.
 ghost use mathlib.Core.Path.{_≡_};
 ghost use mathlib.Core.Bool.{cond};
 ghost use Prim.Native.Nat.{_+_, _*_, _^_, _≤_};
 ghost use lib.Dec.{leb};
 ghost use lib.ListN.{length};
 ghost use Rattle.problem.specs.declared.Checked.the-variants.{Accepted};
-ghost use Rattle.problem.specs.Refusals.{markWrong, operandAbove, strayField, pairBroken, headerFault, faultOf, nodeFault, rootFault, firstBelow, refusal, _then_};
+ghost use Rattle.problem.specs.Refusals.{markWrong, divisionWide, operandAbove, strayField, pairBroken, headerFault, faultOf, nodeFault, rootFault, firstBelow, refusal, _then_};
 use crate::Checked;
 use crate::Refusal;
 use crate::layout::Node;
@@ -55,6 +55,13 @@ pub(crate) fn header_fault(problem: &[u8]) -> Checked
     line(found, 6, problem.len() != long, 0)
 }
 
+// 20: kind 17 with a width over 16.
+fn division_wide(n: Node) -> bool
+    ensures { λ r. ⌜ r ≡ divisionWide n ⌝ }
+{
+    (n.kind == 17) & (16 < n.width)
+}
+
 // 9: an operand's id is not below the node's own.
 fn operand_above(n: Node, operands: u8, id: u16) -> bool
     ensures { λ r. ⌜ r ≡ operandAbove n operands id ⌝ }
@@ -91,7 +98,7 @@ fn pair_broken(n: Node) -> bool
     (n.kind <= 1) & (((n.lo & n.hi) != n.lo) | over | apart)
 }
 
-// 7 to 12, of a node, its id and its operands' widths.
+// 7 to 12, and 20 after 8, of a node, its id and its operands' widths.
 fn fault_of(n: Node, id: u16, wa: u8, wb: u8, wc: u8) -> Checked
     ensures { λ r. ⌜ r ≡ faultOf n id wa wb wc ⌝ }
 {
@@ -99,6 +106,7 @@ fn fault_of(n: Node, id: u16, wa: u8, wb: u8, wc: u8) -> Checked
     let rule = shape.rule;
     let found = line(Checked::Accepted, 7, KINDS <= n.kind, id);
     let found = line(found, 8, (n.width == 0) | (64 < n.width), id);
+    let found = line(found, 20, division_wide(n), id);
     let found = line(found, 9, operand_above(n, shape.operands, id), id);
     let found = line(found, 10, stray_field(n, shape.fields), id);
     let found = line(found, 11, !rule_holds(rule, n.width, wa, wb, wc, n.b), id);

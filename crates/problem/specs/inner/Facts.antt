@@ -1,4 +1,4 @@
--- What an accepted problem has, as facts for the layers above: no line of the table of refusals, 1 to 13 and 16, is given.
+-- What an accepted problem has, as facts for the layers above: no line of the table of refusals, 1 to 13, 16 and 20, is given.
 use Prim.Native.Nat.{ℕ, _^_, _≤_, _<_}
 use mathlib.Core.Path.{_≡_}
 use mathlib.Core.List.{List}
@@ -19,7 +19,8 @@ pub record HeaderFacts (s : List ℕ) : Type 0 where
   pub roots : rootCount s ≤ 256
   pub whole : length s ≡ totalLength s
 
--- 7 to 12, of a node n with id i and the widths of the nodes that its fields a, b, c name
+-- 7 to 12, of a node n with id i and the widths of the nodes that its fields a, b, c name; that a division has a width of at most 16 (20) is part of
+-- its width rule
 pub record NodeFacts (n : Node) (i wa wb wc : ℕ) : Type 0 where
   pub kind-known : n .kind < kindCount
   pub width-some : 0 < n .width
@@ -37,7 +38,7 @@ pub record NodeFacts (n : Node) (i wa wb wc : ℕ) : Type 0 where
   pub hi-fits : n .kind ≤ 1 → n .hi < 2 ^ n .width
   pub constant-fixed : n .kind ≡ 1 → n .lo ≡ n .hi
 
--- 1 to 13 and 16
+-- 1 to 13, 16 and 20
 pub record Facts (s : List ℕ) : Type 0 where
   pub header : HeaderFacts s
   pub node :

@@ -15,7 +15,7 @@ use Rattle.problem.specs.declared.Checked.{Checked}
 use Rattle.problem.specs.declared.Checked.the-variants.{Accepted}
 use Rattle.problem.specs.declared.layout.Node.{Node}
 use Rattle.problem.specs.Layout.{nodeCount, rootCount, nodeAt, widthAt, rootStart, rootAt}
-use Rattle.problem.specs.Refusals.{_then_, firstBelow, bitOutside, markWrong, operandAbove, strayField, pairBroken, headerLines, headerFault, nodeLines, faultOf, nodeFault, rootLines, rootFault, rootBefore, repeatLines, repeatFault, checked}
+use Rattle.problem.specs.Refusals.{_then_, firstBelow, bitOutside, markWrong, divisionWide, operandAbove, strayField, pairBroken, headerLines, headerFault, nodeLines, faultOf, nodeFault, rootLines, rootFault, rootBefore, repeatLines, repeatFault, checked}
 use Rattle.problem.specs.inner.Facts.{HeaderFacts, NodeFacts, Facts}
 use Rattle.problem.specs.laws.Tests.{lt-yes, lt-no, le-yes, le-no, eq-yes, eq-no, not-no, or-no, and-no}
 use Rattle.problem.specs.laws.First.{then-left, then-right, then-accepted, NoneOf, none-of, of-none, first-each, first-all}
@@ -27,6 +27,9 @@ same m n = not-no (eq-yes m n)
 -- six lines of which none is given, as `NoneOf` has them
 six : {A B C D E F : Type 0} → A → B → C → D → E → F → A × (B × (C × (D × (E × (F × Unit {0})))))
 six a b c d e f = (a, (b, (c, (d, (e, (f, tt))))))
+
+seven : {A B C D E F G : Type 0} → A → B → C → D → E → F → G → A × (B × (C × (D × (E × (F × (G × Unit {0}))))))
+seven a b c d e f g = (a, six b c d e f g)
 
 -- 1 to 6
 
@@ -55,10 +58,14 @@ facts-header s h =
     six (lt-no _ _ .1 (h .long)) (mark-right s .1 ((h .mark-t, h .mark-b), h .mark-v)) (same _ _ .1 (h .version-one))
     (lt-no _ _ .1 (h .nodes)) (lt-no _ _ .1 (h .roots)) (same _ _ .1 (h .whole))
 
--- 7 to 12
+-- 7 to 12, and 20
 
 width-right : (w : ℕ) → ((eqb w 0 || ltb 64 w) ≡ false) ↔ ((w ≡ 0 → ⊥) × (w ≤ 64))
 width-right w = or-no (eq-no w 0) (lt-no 64 w)
+
+narrow-right : (n : Node) → (divisionWide n ≡ false) ↔ (n .kind ≡ 17 → n .width ≤ 16)
+unfolding divisionWide
+narrow-right n = and-no (eq-yes (n .kind) 17) (lt-no 16 (n .width))
 
 -- an operand that the kind has is below the node
 below-right : (k m x i : ℕ) → ((ltb m k && leb i x) ≡ false) ↔ (m < k → x < i)
@@ -106,9 +113,9 @@ module _ (n : Node) (i wa wb wc : ℕ) where
   unfolding nodeLines
   node-facts f =
       let w = width-right (n .width) .0 (f .1 .0) in
-      let o = operands-right n (shapeOf (n .kind) .operands) i .0 (f .1 .1 .0) in
-      let u = fields-right n (shapeOf (n .kind) .fields) .0 (f .1 .1 .1 .0) in
-      let p = pair-right n .0 (f .1 .1 .1 .1 .1 .0) in
+      let o = operands-right n (shapeOf (n .kind) .operands) i .0 (f .1 .1 .1 .0) in
+      let u = fields-right n (shapeOf (n .kind) .fields) .0 (f .1 .1 .1 .1 .0) in
+      let p = pair-right n .0 (f .1 .1 .1 .1 .1 .1 .0) in
       record {
         kind-known = le-no _ _ .0 (f .0);
         width-some = let z : (n .width ≡ 0 → ⊥) = w .0 in omega arith;
@@ -121,7 +128,7 @@ module _ (n : Node) (i wa wb wc : ℕ) where
         c-unused = u .0 .1;
         lo-unused = λ k. u .1 k .0;
         hi-unused = λ k. u .1 k .1;
-        rule = rule-right n wa wb wc .0 (f .1 .1 .1 .1 .0);
+        rule = rule-right n wa wb wc .0 (f .1 .1 .1 .1 .1 .0);
         lo-inside = λ k. p k .0 .0;
         hi-fits = λ k. p k .0 .1;
         constant-fixed = λ e. p (omega arith) .1 e;
@@ -130,7 +137,8 @@ module _ (n : Node) (i wa wb wc : ℕ) where
   facts-node : NodeFacts n i wa wb wc → NoneOf (nodeLines n i wa wb wc)
   unfolding nodeLines
   facts-node h =
-      six (le-no _ _ .1 (h .kind-known)) (width-right (n .width) .1 (λ e. let l = h .width-some in omega arith, h .width-most))
+      seven (le-no _ _ .1 (h .kind-known)) (width-right (n .width) .1 (λ e. let l = h .width-some in omega arith, h .width-most))
+      (narrow-right n .1 (λ e. (rw e at (h .rule)) .2))
       (operands-right n _ i .1 ((h .a-below, h .b-below), h .c-below))
       (fields-right n _ .1 (((h .a-unused, h .b-unused), h .c-unused), λ k. (h .lo-unused k, h .hi-unused k)))
       (rule-right n wa wb wc .1 (h .rule)) (pair-right n .1 (λ k. ((h .lo-inside k, h .hi-fits k), h .constant-fixed)))

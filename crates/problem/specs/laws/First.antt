@@ -7,8 +7,6 @@ use Prim.Native.Nat.{ℕ, zero, suc, _+_, _≤_, _<_}
 use native.Mathlib.Numerals.{add-one}
 use native.Mathlib.Omega.{arith}
 use native.Mathlib.Nat.{not-suc-le-zero, le-of-suc-le-suc, eq-or-lt-of-le}
-use lib.Dec.{leb}
-use borrow.Author.Tests.{leb-true}
 use Rattle.problem.specs.declared.Checked.{Checked}
 use Rattle.problem.specs.declared.Checked.the-variants.{Accepted, Refused}
 use Rattle.problem.specs.declared.Refusal.{Refusal}
@@ -101,30 +99,25 @@ pub line-more :
     → r ≡ firstOf p (ls ++ (k, t) ∷ [])
 line-more p ls k t t′ x r e q h = h ∙ rw (e, q) (line-last p ls (k, t))
 
--- what holds of acceptance and of a refusal by each number from a to b holds of the first line, where the lines have such numbers
-abbrev pub numbersIn : ℕ → ℕ → List Line → Bool
-numbersIn a b [] = true
-numbersIn a b (l ∷ ls) = leb a (l .0) && leb (l .0) b && numbersIn a b ls
+-- what holds of acceptance and of a refusal by each number that passes a test holds of the first line, where the lines have such numbers
+abbrev pub numbersIn : (ℕ → Bool) → List Line → Bool
+numbersIn f [] = true
+numbersIn f (l ∷ ls) = f (l .0) && numbersIn f ls
 
 first-step : (P : Checked → Type 0) (x y : Checked) (t : Bool) → P x → P y → P (cond t x y)
 first-step P x y true p q = p
 first-step P x y false p q = q
 
 pub first-of-each :
-    (P : Checked → Type 0) (p a b : ℕ) (ls : List Line)
-    → numbersIn a b ls ≡ true
-    → ((k : ℕ) → a ≤ k → k ≤ b → P (refusal k p))
+    (P : Checked → Type 0) (p : ℕ) (f : ℕ → Bool) (ls : List Line)
+    → numbersIn f ls ≡ true
+    → ((k : ℕ) → f k ≡ true → P (refusal k p))
     → P Accepted
     → P (firstOf p ls)
 unfolding firstOf
-first-of-each P p a b [] t h z = z
-first-of-each P p a b (l ∷ ls) t h z =
-    let k = l .0 in
-    let u = both-left (leb a k && leb k b) (numbersIn a b ls) t in
-    let v = both-right (leb a k && leb k b) (numbersIn a b ls) t in
-    first-step P _ _ (l .1)
-    (h k (leb-true _ _ (both-left (leb a k) (leb k b) u)) (leb-true _ _ (both-right (leb a k) (leb k b) u)))
-    (first-of-each P p a b ls v h z)
+first-of-each P p f [] t h z = z
+first-of-each P p f (l ∷ ls) t h z =
+    first-step P _ _ (l .1) (h (l .0) (both-left (f (l .0)) (numbersIn f ls) t)) (first-of-each P p f ls (both-right (f (l .0)) (numbersIn f ls) t) h z)
 
 -- of the places below a number
 
