@@ -13,13 +13,13 @@ use Rattle.picking.specs.Spot.{Fair}
 
 -- the single keys of the arms of the inverse sets, of the consistent sets and of essential positions, the last first
 abbrev pub inverseArms : List (List ℕ)
-inverseArms = singles 2 15
+inverseArms = singles 2 16
 
 abbrev pub consistentArms : List (List ℕ)
-consistentArms = (9 ∷ 11 ∷ []) ∷ (16 ∷ []) ∷ (15 ∷ []) ∷ (14 ∷ []) ∷ (13 ∷ []) ∷ (12 ∷ []) ∷ (10 ∷ []) ∷ (8 ∷ []) ∷ (7 ∷ []) ∷ (6 ∷ []) ∷ (3 ∷ []) ∷ (2 ∷ []) ∷ []
+consistentArms = (9 ∷ 11 ∷ []) ∷ (17 ∷ []) ∷ (16 ∷ []) ∷ (15 ∷ []) ∷ (14 ∷ []) ∷ (13 ∷ []) ∷ (12 ∷ []) ∷ (10 ∷ []) ∷ (8 ∷ []) ∷ (7 ∷ []) ∷ (6 ∷ []) ∷ (3 ∷ []) ∷ (2 ∷ []) ∷ []
 
 abbrev pub essentialArms : List (List ℕ)
-essentialArms = (12 ∷ []) ∷ (11 ∷ []) ∷ (2 ∷ 13 ∷ 16 ∷ []) ∷ []
+essentialArms = (12 ∷ 17 ∷ []) ∷ (11 ∷ []) ∷ (2 ∷ 13 ∷ 16 ∷ []) ∷ []
 
 -- no kind of a spot is past what the arms and the ranges up to lo take
 module _ {S : Spot} (F : Fair S) where
@@ -44,8 +44,9 @@ pub makeup-left : (n : ℕ) → 2 ≤ n → n < 6 → Without consistentArms n �
 makeup-left n l u w = hit makeup n (left-over 2 6 consistentArms (hasKey makeup) tt n l u w)
 
 -- the kinds of two positions, the same way
-pub two-told : {n : ℕ} → n ≡ 12 → shapeOf n .operands ≡ 2
-two-told e = rw e refl
+pub two-told : {n : ℕ} → (n ≡ 12) ⊎ (n ≡ 17) → shapeOf n .operands ≡ 2
+two-told (inl e) = rw e refl
+two-told (inr e) = rw e refl
 
 pub two-left : (n : ℕ) → 2 ≤ n → n < 16 → Without essentialArms n → shapeOf n .operands ≡ 2
 two-left n l u w = sym (counted 2 16 2 essentialArms tt n l u w)

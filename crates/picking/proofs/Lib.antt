@@ -4,6 +4,7 @@ pub mod BitwiseLaws
 pub mod BoxLaws
 pub mod ChoiceLaws
 pub mod ComparisonLaws
+pub mod DivisionLaws
 pub mod EssentialLaws
 pub mod JoiningLaws
 pub mod KindLaws

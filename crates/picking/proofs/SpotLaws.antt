@@ -14,8 +14,10 @@ use Rattle.words.specs.Agree.{Agrees}
 use Rattle.words.specs.laws.Agree.{agrees-lt}
 use Rattle.words.specs.Pick.{Picked}
 use Rattle.words.specs.laws.Pick.{picked-same}
-use Rattle.operators.specs.declared.table.Rule.the-variants.{Both, Equal}
+use Rattle.operators.specs.declared.table.Rule.the-variants.{Equal}
 use Rattle.operators.specs.Table.{kindOf, row, shapeOf, RuleMet}
+use Rattle.operators.specs.laws.Table.{evenly, even-widths}
+use Rattle.operators.specs.laws.Meaning.{even-two}
 use Rattle.operators.specs.Meaning.{meaning, flag, choose}
 use Rattle.picking.specs.declared.spot.Three.{Three}
 use Rattle.picking.specs.declared.spot.Spot.{Spot}
@@ -23,7 +25,7 @@ use Rattle.picking.specs.declared.boxes.Set.{Set}
 use Rattle.picking.specs.Spot.{at, put, positions, value, Reaches, Slot, Fair, Asked}
 use Rattle.picking.specs.laws.Positions.{at-put-same, value-used}
 use Rattle.picking.specs.inner.Boxes.{Solves, Chosen, Some}
-use Rattle.picking.specs.inner.Asks.{joint, sideOf, Joined, Meets, Wanted}
+use Rattle.picking.specs.inner.Asks.{Short, joint, sideOf, Joined, Meets, Wanted}
 use Rattle.picking.proofs.ArithmeticLaws.{sum-comm}
 use Rattle.picking.proofs.BitwiseLaws.{xor-back}
 use Rattle.picking.proofs.BoxLaws.{solves-by}
@@ -83,20 +85,23 @@ module _ {S : Spot} {i t m : ℕ} (A : Asked S i t) (key : S .kind ≡ m) where
   other-lt h e = rw e (slot-lt (slot-at (A .fair) key (1 - i) (omega arith)))
 
   -- both operands have the node's width
-  module _ (both : shapeOf m ≡ row 2 2 Both) where
+  module _ (both : evenly (shapeOf m .rule) ≡ true) where
+    both-two : shapeOf m .operands ≡ 2
+    both-two = even-two (kindOf m) both
+
     both-width : (j : ℕ) → j < 2 → at (S .widths) j ≡ S .width
     both-width j h =
-        let e : (S .widths .a ≡ S .width) × (S .widths .b ≡ S .width) = rw both at (rule-at (A .fair) key) in
+        let e = even-widths (shapeOf m .rule) _ _ _ _ _ both (rule-at (A .fair) key) in
         two-of (λ j. at (S .widths) j ≡ S .width) j h (e .0) (e .1)
 
     both-wide : at (S .widths) i ≤ S .width
-    both-wide = le-of-eq (both-width i (rw both at place))
+    both-wide = le-of-eq (both-width i (rw both-two at place))
 
     both-other : at (S .widths) (1 - i) ≡ S .width
     both-other = both-width (1 - i) (omega arith)
 
     pub both-lt : {y : ℕ} → y ≡ at (S .current) (1 - i) → y < 2 ^ S .width
-    both-lt e = rw both-other at (other-lt (rw both (omega arith)) e)
+    both-lt e = rw both-other at (other-lt (rw both-two (omega arith)) e)
 
   -- a test has operands of one width, and its target is a bit
   module _ (equal : shapeOf m ≡ row 2 2 Equal) where
@@ -123,6 +128,10 @@ joined-at {S} {i} {t} A key =
 -- extract
 pub extract-at : {S : Spot} {i t : ℕ} → Asked S i t → S .kind ≡ 13 → (1 ≤ S .width) × (S .low + S .width ≤ 64) × (t < 2 ^ S .width)
 extract-at A key = (A .fair .some, le-trans (rule-at (A .fair) key) (slot-at (A .fair) key 0 (omega arith) .wide), A .target)
+
+-- division
+pub short-at : {S : Spot} {i t : ℕ} → Asked S i t → S .kind ≡ 17 → Short (S .width) t
+short-at A key = record { some = A .fair .some; short = rule-at (A .fair) key .2; fits = A .target }
 
 -- sign extension
 pub sext-at : {S : Spot} {i t : ℕ} → Asked S i t → S .kind ≡ 16 → (1 ≤ S .widths .a) × (S .widths .a ≤ S .width) × (S .width ≤ 64) × (t < 2 ^ S .width)
@@ -187,12 +196,12 @@ module _ {S : Spot} {i t m : ℕ} (A : Asked S i t) (key : S .kind ≡ m) where
       → Solves (at (S .widths) i) (λ v. value S (put (S .current) i v) ≡ t) r
   wide-arm two = arm-two A key two (wide-at A)
 
-  module _ (both : shapeOf m ≡ row 2 2 Both) where
+  module _ (both : evenly (shapeOf m .rule) ≡ true) where
     pub both-arm : {y : ℕ} {r : Set} → y ≡ at (S .current) (1 - i) → Solves (S .width) (λ v. opAt A key (joint i v y) ≡ t) r → Solves (at (S .widths) i) (λ v. value S (put (S .current) i v) ≡ t) r
-    both-arm = arm-two A key (rw both) (both-wide A key both)
+    both-arm = arm-two A key (both-two A key both) (both-wide A key both)
 
     pub both-reach : {r : Set} → Solves (S .width) (λ v. Some (S .width) (λ s. opAt A key (joint i v s) ≡ t)) r → Solves (at (S .widths) i) (λ v. Reaches S t i v) r
-    both-reach = reach-two A key (rw both) (both-wide A key both) (both-other A key both)
+    both-reach = reach-two A key (both-two A key both) (both-wide A key both) (both-other A key both)
 
   pub equal-lt : {y : ℕ} → shapeOf m ≡ row 2 2 Equal → y ≡ at (S .current) (1 - i) → y < 2 ^ S .widths .a
   equal-lt equal e = rw (equal-width A key equal (1 - i) (omega arith)) at (other-lt A key (rw equal (omega arith)) e)

@@ -1,13 +1,14 @@
 -- Laws of the sets that are no single box: what is found in them, from what is found among the values that agree.
 use mathlib.Core.Path.{_≡_, sym, subst}
-use mathlib.Core.Logic.{_⊎_, inl, inr}
+use mathlib.Core.Logic.{_⊎_, inl, inr, ⊎-elim}
 use Prim.Native.Nat.{ℕ, _+_, _-_, _*_, _/_, _%_, _^_, _≤_, _<_}
-use native.Mathlib.Nat.{le-trans, le-of-eq, lt-of-not-le, not-le-of-lt, not-suc-le-zero, mod-lt, mul-le-mul-right, pos-of-ne-zero, eq-or-lt-of-le}
+use native.Mathlib.Nat.{le-refl, le-trans, le-of-eq, le-of-lt, lt-of-not-le, not-le-of-lt, not-suc-le-zero, mod-lt, mul-le-mul-right, pos-of-ne-zero, eq-or-lt-of-le}
 use native.Mathlib.Omega.{arith}
 use lib.Pow.{pow-pos, shr-lt, split}
 use Rattle.words.specs.declared.found.Found.{Found}
 use Rattle.words.specs.declared.found.Found.the-variants.{At, Nothing}
 use Rattle.words.specs.Agree.{Agrees, Within}
+use Rattle.words.specs.laws.Bits.{lt-or-ge}
 use Rattle.words.specs.laws.Agree.{agrees-of-within, lo-within, within-hi, within-le, within-refl, within-div, within-mod, within-join}
 use Rattle.words.specs.inner.Words.{lesser, over}
 use Rattle.words.specs.laws.Meet.{lesser-first}
@@ -17,9 +18,10 @@ use Rattle.words.specs.laws.Pick.{first-same}
 use Rattle.picking.specs.declared.unions.Row.{Row}
 use Rattle.picking.specs.declared.unions.Row.the-variants.{Left, Right, Mirrored}
 use Rattle.picking.specs.declared.unions.Union.{Union}
-use Rattle.picking.specs.declared.unions.Union.the-variants.{Except, Low, Several}
-use Rattle.picking.specs.inner.Boxes.{In, met, boxOf, FineOf, ChosenOf}
+use Rattle.picking.specs.declared.unions.Union.the-variants.{Except, Low, Dividends, Several}
+use Rattle.picking.specs.inner.Boxes.{In, met, boxOf, HasOf, FineOf, ChosenOf}
 use Rattle.picking.proofs.BoxLaws.{met-to, met-back}
+use Rattle.picking.proofs.DivisionLaws.{gap, gap-next}
 
 -- ---- found in a part of the values that agree
 
@@ -44,6 +46,21 @@ module _ (U : Union) {lo hi p : ℕ} where
       go : (r : Found) → FirstFrom (Agrees lo hi) (v + 1) r → FirstFrom (ChosenOf U lo hi) p r
       go (At u) b = record { member = in-next u b; from = le-trans (a .from) (le-trans (omega arith) (b .from)); least = λ x m h. b .least x (m .agrees) (past x m h) }
       go Nothing b = λ u m h. b u (m .agrees) (past u m h)
+
+-- nothing of the set from p on is below from
+pub record Passed (U : Union) (lo hi p from : ℕ) : Type 0 where
+  pub onward : p ≤ from
+  pub none : (u : ℕ) → ChosenOf U lo hi u → p ≤ u → from ≤ u
+
+module _ (U : Union) {lo hi p : ℕ} where
+  pub passed-start : Passed U lo hi p p
+  passed-start = record { onward = le-refl p; none = λ u m h. h }
+
+  pub passed-none : {from : ℕ} → Passed U lo hi p from → NoneFrom (Agrees lo hi) from → NoneFrom (ChosenOf U lo hi) p
+  passed-none d n u m h = n u (m .agrees) (d .none u m h)
+
+  pub passed-first : {from v : ℕ} → Passed U lo hi p from → Least (Agrees lo hi) from v → HasOf U v → Least (ChosenOf U lo hi) p v
+  passed-first d a m = record { member = record { agrees = a .member; has = m }; from = le-trans (d .onward) (a .from); least = λ u k h. a .least u (k .agrees) (d .none u k h) }
 
 -- ---- all but one
 pub except-next : {lo hi v s : ℕ} → v ≡ s → (u : ℕ) → Least (Agrees lo hi) (v + 1) u → ChosenOf (Except s) lo hi u
@@ -84,6 +101,21 @@ module _ (lo hi m p v : ℕ) (ordered : Within lo hi) (some : hi % 2 ^ m ≡ 0 �
 
   pub low-next : (u : ℕ) → Least (Agrees lo hi) (v + 1) u → ChosenOf (Low m) lo hi u
   low-next u b = record { agrees = b .member; has = next-some u (b .from) (b .least z z-agrees z-above) }
+
+-- ---- what some divisor takes to t
+module _ {t m lo hi p from v : ℕ} (d : Passed (Dividends t m) lo hi p from) (a : Least (Agrees lo hi) from v) where
+  pub dividend-past : m < v → NoneFrom (ChosenOf (Dividends t m) lo hi) p
+  dividend-past l u k h = let b = a .least u (k .agrees) (d .none u k h) in let c = k .has .1 in omega arith
+
+  pub dividend-next : 0 < t → v / t ≤ v % t → Passed (Dividends t m) lo hi p ((v / t + 1) * t)
+  dividend-next h n =
+      record {
+        onward = le-trans (d .onward) (le-trans (a .from) (le-of-lt (gap-next t v h)));
+        none =
+            λ u k l.
+            ⊎-elim (λ (b : u < (v / t + 1) * t). absurd (gap t v u n (a .least u (k .agrees) (d .none u k l)) b (k .has .0)))
+            (λ (b : (v / t + 1) * t ≤ u). b) (lt-or-ge u ((v / t + 1) * t));
+      }
 
 -- ---- the boxes of a row
 

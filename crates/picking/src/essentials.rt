@@ -105,8 +105,8 @@ pub fn essential(s: Spot, i: u32, t: u64) -> bool
     match kind {
         2 | 13 | 16 => essential_alone(s, t),
         11 => essential_of_if(s, i, t),
-        3..=10 | 12 | 14..=15 => essential_of_two(s, i, t),
-        0..=1 | 17..=255 => false,
+        3..=10 | 12 | 14..=15 | 17 => essential_of_two(s, i, t),
+        0..=1 | 18..=255 => false,
     }
 }
 
@@ -123,7 +123,11 @@ pub fn essential_positions(s: Spot, t: u64) -> u32
             essential_branch(s, 1, t),
             essential_branch(s, 2, t),
         ),
-        3..=10 | 12 | 14..=15 => marks(essential_of_two(s, 0, t), essential_of_two(s, 1, t), false),
-        0..=1 | 17..=255 => 0,
+        3..=10 | 12 | 14..=15 | 17 => marks(
+            essential_of_two(s, 0, t),
+            essential_of_two(s, 1, t),
+            false,
+        ),
+        0..=1 | 18..=255 => 0,
     }
 }

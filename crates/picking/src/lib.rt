@@ -5,6 +5,7 @@ mod bitwise;
 mod boxes;
 mod choice;
 mod comparisons;
+mod divisions;
 mod essentials;
 mod joining;
 mod picks;

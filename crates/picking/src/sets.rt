@@ -5,6 +5,7 @@ use crate::bitwise;
 use crate::boxes::Set;
 use crate::choice;
 use crate::comparisons;
+use crate::divisions;
 use crate::joining;
 use crate::shifts;
 use crate::signed;
@@ -39,7 +40,8 @@ pub(crate) fn inverse_set(s: Spot, i: u32, t: u64) -> Set
         14 => signed::inverse_slt(i, s.widths.a as u32, y, t),
         15 => signed::inverse_ashr(i, w, y, t),
         16 => signed::inverse_sext(s.widths.a as u32, w, t),
-        0..=1 | 17..=255 => Set::Empty,
+        17 => divisions::inverse_udiv(i, w, y, t),
+        0..=1 | 18..=255 => Set::Empty,
     }
 }
 
@@ -63,7 +65,8 @@ pub(crate) fn consistent_set(s: Spot, i: u32, t: u64) -> Set
         14 => signed::consistent_slt(i, s.widths.a as u32, t),
         15 => signed::consistent_ashr(i, w, t),
         16 => signed::inverse_sext(s.widths.a as u32, w, t),
+        17 => divisions::consistent_udiv(i, w, t),
         4..=5 | 9 | 11 => basic::all(),
-        0..=1 | 17..=255 => Set::Empty,
+        0..=1 | 18..=255 => Set::Empty,
     }
 }

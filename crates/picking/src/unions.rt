@@ -29,6 +29,8 @@ pub(crate) enum Union {
     Except(u64),
     // Some of the m low bits set.
     Low(u32),
+    // Up to m, what some divisor takes to t: v / t does, and no other need be tried (t, m).
+    Dividends(u64, u64),
     // The first n boxes of a row that has room for them.
     Several(Row, u32),
 }
@@ -102,6 +104,28 @@ fn first_low(m: u32, lo: u64, hi: u64, p: u64) -> Found
     first_after(lo, hi, v)
 }
 
+// The first value that agrees; where v / t does not take it to t, no divisor takes to t what follows before the next multiple
+// of t. Multiples that are tried so are at most 256.
+fn first_dividend(t: u64, m: u64, lo: u64, hi: u64, p: u64) -> Found
+    requires { ⌜ FineOf (Union.Dividends t m) × Within lo hi ⌝ }
+    ensures { λ r. ⌜ FirstFrom (ChosenOf (Union.Dividends t m) lo hi) p r ⌝ }
+{
+    let mut from = p;
+    loop {
+        let Found::At(v) = words::first_agreeing(lo, hi, from) else {
+            return Found::Nothing;
+        };
+        if m < v {
+            return Found::Nothing;
+        }
+        let s = v / t;
+        if v % t < s {
+            return Found::At(v);
+        }
+        from = (s + 1) * t;
+    }
+}
+
 // The least value from p on that agrees with lo, hi and is in the set.
 fn first_in(set: Union, lo: u64, hi: u64, p: u64) -> Found
     requires { ⌜ FineOf set × Within lo hi ⌝ }
@@ -110,6 +134,7 @@ fn first_in(set: Union, lo: u64, hi: u64, p: u64) -> Found
     match set {
         Union::Except(s) => first_except(s, lo, hi, p),
         Union::Low(m) => first_low(m, lo, hi, p),
+        Union::Dividends(t, m) => first_dividend(t, m, lo, hi, p),
         Union::Several(by, n) => first_several(by, n, lo, hi, p),
     }
 }

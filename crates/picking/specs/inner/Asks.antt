@@ -24,6 +24,12 @@ pub record Folded (w t u : ℕ) : Type 0 where
   pub small : u < 2 ^ (w - 1)
   pub other : (u ≡ t → ⊥) → u ≡ (2 ^ w - 1) - t
 
+-- a target of a width of 1 to 16 bits
+pub record Short (w t : ℕ) : Type 0 where
+  pub some : 1 ≤ w
+  pub short : w ≤ 16
+  pub fits : t < 2 ^ w
+
 -- v at position i of two, s at the other
 abbrev pub joint : ℕ → ℕ → ℕ → Three
 joint zero v s = record { a = v; b = s; c = 0 }

@@ -12,7 +12,7 @@ use Rattle.picking.specs.declared.boxes.Set.the-variants.{Empty, Only, O
 use Rattle.picking.specs.declared.unions.Row.{Row}
 use Rattle.picking.specs.declared.unions.Row.the-variants.{Left, Right, Mirrored, Ends}
 use Rattle.picking.specs.declared.unions.Union.{Union}
-use Rattle.picking.specs.declared.unions.Union.the-variants.{Except, Low, Several}
+use Rattle.picking.specs.declared.unions.Union.the-variants.{Except, Low, Dividends, Several}
 
 -- v lies in the box: it agrees with its ternary word and lies in its interval
 abbrev pub In : Box → ℕ → Type 0
@@ -75,6 +75,7 @@ pub record Among (S : Row) (n v : ℕ) : Type 0 where
 abbrev pub HasOf : Union → ℕ → Type 0
 HasOf (Except s) v = v ≡ s → ⊥
 HasOf (Low m) v = v % 2 ^ m ≡ 0 → ⊥
+HasOf (Dividends t m) v = (v % t < v / t) × (v ≤ m)
 HasOf (Several S n) v = Among S n v
 
 abbrev pub Has : Set → ℕ → Type 0
@@ -87,6 +88,7 @@ Has (Many U) v = HasOf U v
 abbrev pub FineOf : Union → Type 0
 FineOf (Except s) = Unit {0}
 FineOf (Low m) = m ≤ 64
+FineOf (Dividends t m) = (0 < t) × (t < 2 ^ 16) × (m < 2 ^ 16)
 FineOf (Several (Left t w) n) = (n ≤ w) × (w ≤ 64) × (t < 2 ^ w)
 FineOf (Several (Right t) n) = (n ≤ 64) × ((j : ℕ) → j < n → t * 2 ^ j + 2 ^ j ≤ 2 ^ 64)
 FineOf (Several (Mirrored u w) n) = (1 ≤ w) × (w ≤ 64) × (n ≤ w) × ((j : ℕ) → j < n → u * 2 ^ j + 2 ^ j ≤ 2 ^ w)

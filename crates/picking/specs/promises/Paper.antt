@@ -20,7 +20,7 @@ use Rattle.words.specs.inner.Words.{over}
 use Rattle.words.specs.Pick.{Pick, above}
 use Rattle.words.specs.laws.Pick.{pick-same}
 use Rattle.operators.specs.declared.fixed.Pair.{Pair}
-use Rattle.operators.specs.Table.{add, slt, ashr, sext}
+use Rattle.operators.specs.Table.{add, slt, ashr, sext, udiv}
 use Rattle.operators.specs.Meaning.{flag}
 use Rattle.operators.specs.Fixed.{pair, pairOf}
 use Rattle.picking.specs.declared.spot.Spot.{Spot}
@@ -67,8 +67,8 @@ node k w x y = record {
   current = record { a = x .now; b = y .now; c = 0 };
 }
 
--- the kinds by their numbers: 3 and, 5 add, 6 mul, 7 shl, 8 lshr, 9 eq, 10 below, 14 signed below, 15 arithmetic shift, 16 sign extension; x stands
--- at position 0 but where an amount is asked for
+-- the kinds by their numbers: 3 and, 5 add, 6 mul, 7 shl, 8 lshr, 9 eq, 10 below, 14 signed below, 15 arithmetic shift, 16 sign extension, 17
+-- division; x stands at position 0 but where an amount or a divisor is asked for
 pub record PaperNumbers : Type 0 where
   -- "4 bits, x · 6 = 2: inverse set 3, 11. Proposal 4 gives 11; 12 gives 3."
   pub product : Exactly (Inverse (node 6 4 (free 4) (number 4 6)) 2 0) (3 ∷ 11 ∷ [])
@@ -122,6 +122,18 @@ pub record PaperNumbers : Type 0 where
   pub extended : Exactly (Inverse (node 16 8 (free 4) (number 0 0)) 249 0) (9 ∷ [])
   pub unextended : Exactly (Inverse (node 16 8 (free 4) (number 0 0)) 9 0) []
   pub extended-pair : (q r : Pair) → pairOf sext 6 4 0 0 (pair 1 9) q r ≡ pair 1 57
+  -- R-11. 4 bits, x div 3 = 4: 12, 13, 14. x div 0 = 15: everything; x div 0 = 3: nothing.
+  pub quotient : Exactly (Inverse (node 17 4 (free 4) (number 4 3)) 4 0) (12 ∷ 13 ∷ 14 ∷ [])
+  pub zero-divisor : Exactly (Inverse (node 17 4 (free 4) (number 4 0)) 15 0) (0 ∷ 1 ∷ 2 ∷ 3 ∷ 4 ∷ 5 ∷ 6 ∷ 7 ∷ 8 ∷ 9 ∷ 10 ∷ 11 ∷ 12 ∷ 13 ∷ 14 ∷ 15 ∷ [])
+  pub no-dividend : Exactly (Inverse (node 17 4 (free 4) (number 4 0)) 3 0) []
+  -- 13 div x = 3: 4; 13 div x = 15: 0. x div s = 6, consistent: 6, 12, 13; proposal 7 gives 12.
+  pub divisor : Exactly (Inverse (node 17 4 (number 4 13) (free 4)) 3 1) (4 ∷ [])
+  pub divisor-zero : Exactly (Inverse (node 17 4 (number 4 13) (free 4)) 15 1) (0 ∷ [])
+  pub dividend : Exactly (Consistent (node 17 4 (free 4) (free 4)) 6 0) (6 ∷ 12 ∷ 13 ∷ [])
+  pub dividend-7 : Pick (Consistent (node 17 4 (free 4) (free 4)) 6 0) 7 12
+  -- 13 by 0 is 1111; 13 by 0*** is open.
+  pub quotient-pair : (r : Pair) → pairOf udiv 4 4 4 0 (pair 13 13) (pair 0 0) r ≡ pair 15 15
+  pub quotient-open : (r : Pair) → pairOf udiv 4 4 4 0 (pair 13 13) (pair 0 7) r ≡ pair 0 15
 
 -- ---- its proof: small widths by a test of every value, 64 bits by law
 
@@ -294,4 +306,13 @@ paper-numbers = record {
   extended = inverses (node 16 8 (free 4) (number 0 0)) 249 0 (omega arith) (9 ∷ []) tt;
   unextended = inverses (node 16 8 (free 4) (number 0 0)) 9 0 (omega arith) [] tt;
   extended-pair = λ q r. pairs-filled q r .1;
+  quotient = inverses (node 17 4 (free 4) (number 4 3)) 4 0 (omega arith) (12 ∷ 13 ∷ 14 ∷ []) tt;
+  zero-divisor = inverses (node 17 4 (free 4) (number 4 0)) 15 0 (omega arith) (0 ∷ 1 ∷ 2 ∷ 3 ∷ 4 ∷ 5 ∷ 6 ∷ 7 ∷ 8 ∷ 9 ∷ 10 ∷ 11 ∷ 12 ∷ 13 ∷ 14 ∷ 15 ∷ []) tt;
+  no-dividend = inverses (node 17 4 (free 4) (number 4 0)) 3 0 (omega arith) [] tt;
+  divisor = inverses (node 17 4 (number 4 13) (free 4)) 3 1 (omega arith) (4 ∷ []) tt;
+  divisor-zero = inverses (node 17 4 (number 4 13) (free 4)) 15 1 (omega arith) (0 ∷ []) tt;
+  dividend = consistents (node 17 4 (free 4) (free 4)) 6 0 (omega arith) (omega arith) (6 ∷ 12 ∷ 13 ∷ []) tt;
+  dividend-7 = consistent-pick (node 17 4 (free 4) (free 4)) 6 0 (omega arith) (omega arith) 7 12 tt;
+  quotient-pair = λ r. refl;
+  quotient-open = λ r. refl;
 }

@@ -8,7 +8,7 @@ use borrow.Author.Needs.{needs}
 use Rattle.picking.proofs.ArithmeticLaws.{product-comm}
 use Rattle.picking.proofs.BoxLaws.{solves-all}
 use Rattle.picking.proofs.KindLaws.{no-consistent-left, makeup-told, makeup-left}
-use Rattle.picking.proofs.SpotLaws.{rule-at, slot-at, wide-at, place, count-at, flag-target, joined-at, extract-at, sext-at, arm-one, reach-one, both-reach, equal-reach, side-reach, reach-any, alike-some}
+use Rattle.picking.proofs.SpotLaws.{rule-at, slot-at, wide-at, place, count-at, flag-target, joined-at, extract-at, sext-at, short-at, arm-one, reach-one, both-reach, equal-reach, side-reach, reach-any, alike-some}
 use Rattle.picking.proofs.sets.consistent_set.Statement.{statement}
 use Rattle.picking.proofs.sets.consistent_set.Tie as tie
 
@@ -71,6 +71,9 @@ cast-inverse-sext c = record { fits = omega (arith, slot-at (c .before .before .
 inverse-sext-requires : tie.Need-inverse-sext-requires
 inverse-sext-requires c κs = sext-at (c .before .before .pre) (c .before .match .keys11)
 
+consistent-udiv-requires : tie.Need-consistent-udiv-requires
+consistent-udiv-requires c κs = (place (c .before .pre) (c .match .keys12), short-at (c .before .pre) (c .match .keys12))
+
 all-requires : tie.Need-all-requires
 all-requires c κs = search needs
 
@@ -120,17 +123,20 @@ returns-11 c =
     reach-one (s .pre) (count-at (s .pre .fair) k) (arm-one (s .pre) k refl (le-refl _) (c .inverse-sext .ensures))
 
 returns-12 : tie.Need-returns-12
-returns-12 c = let s = c .before .before in absurd (omega (arith, c .if1 .taken, s .pre .fair .kind-from))
+returns-12 c = both-reach (c .before .before .pre) (c .before .match .keys12) refl (c .consistent-udiv .ensures)
 
 returns-13 : tie.Need-returns-13
-returns-13 c = let m = c .before .before in absurd (no-consistent-left (m .before .pre .fair) (c .if2 .left) (m .match .rest))
+returns-13 c = let s = c .before .before in absurd (omega (arith, c .if1 .taken, s .pre .fair .kind-from))
 
 returns-14 : tie.Need-returns-14
-returns-14 c =
+returns-14 c = let m = c .before .before in absurd (no-consistent-left (m .before .pre .fair) (c .if2 .left) (m .match .rest))
+
+returns-15 : tie.Need-returns-15
+returns-15 c =
     let m = c .before in
     let s = m .before in
     solves-all (wide-at (s .pre)) (c .all .ensures)
-    (λ v l. reach-any (s .pre) v l (⊎-elim (λ o. makeup-told (o .keys12)) (λ p. makeup-left _ (p .1 .left) (p .2 .taken) (p .0 .rest)) (m .match .came)))
+    (λ v l. reach-any (s .pre) v l (⊎-elim (λ o. makeup-told (o .keys13)) (λ p. makeup-left _ (p .1 .left) (p .2 .taken) (p .0 .rest)) (m .match .came)))
 
 pub consistent-set-spec : {M : Type 1} → statement M
 consistent-set-spec =
@@ -152,6 +158,7 @@ consistent-set-spec =
     consistent-ashr-requires
     cast-inverse-sext
     inverse-sext-requires
+    consistent-udiv-requires
     all-requires
     returns
     returns-2
@@ -166,4 +173,5 @@ consistent-set-spec =
     returns-11
     returns-12
     returns-13
-    returns-14)
+    returns-14
+    returns-15)

@@ -7,7 +7,7 @@ use borrow.Author.Needs.{needs}
 use Rattle.picking.proofs.ArithmeticLaws.{sum-comm, product-comm}
 use Rattle.picking.proofs.ComparisonLaws.{equal-comm}
 use Rattle.picking.proofs.KindLaws.{no-inverse-left}
-use Rattle.picking.proofs.SpotLaws.{rule-at, slot-at, wide-at, place, both-lt, flag-target, joined-at, extract-at, sext-at, arm, arm-one, wide-arm, both-arm, equal-lt, equal-arm, side-lt, side-arm, alike-by}
+use Rattle.picking.proofs.SpotLaws.{rule-at, slot-at, wide-at, place, both-lt, flag-target, joined-at, extract-at, sext-at, short-at, arm, arm-one, wide-arm, both-arm, equal-lt, equal-arm, side-lt, side-arm, alike-by}
 use Rattle.picking.proofs.sets.inverse_set.Statement.{statement}
 use Rattle.picking.proofs.sets.inverse_set.Tie as tie
 
@@ -102,6 +102,12 @@ cast-inverse-sext c =
 inverse-sext-requires : tie.Need-inverse-sext-requires
 inverse-sext-requires c κs = let m = c .before in sext-at (m .before .before .before .pre) (m .match .keys15)
 
+inverse-udiv-requires : tie.Need-inverse-udiv-requires
+inverse-udiv-requires c κs =
+    let s = c .before .before .before in
+    let k = c .match .keys16 in
+    (place (s .pre) k, short-at (s .pre) k, both-lt (s .pre) k refl (c .before .other .ensures))
+
 returns : tie.Need-returns
 returns c =
     let s = c .before .before .before .before in
@@ -183,7 +189,12 @@ returns-15 c =
     arm-one (s .pre) (m .match .keys15) refl (le-refl _) (c .inverse-sext .ensures)
 
 returns-16 : tie.Need-returns-16
-returns-16 c = absurd (no-inverse-left (c .before .before .before .pre .fair) (c .match .rest))
+returns-16 c =
+    let s = c .before .before .before .before in
+    both-arm (s .pre) (c .before .match .keys16) refl (c .before .before .other .ensures) (c .inverse-udiv .ensures)
+
+returns-17 : tie.Need-returns-17
+returns-17 c = absurd (no-inverse-left (c .before .before .before .pre .fair) (c .match .rest))
 
 pub inverse-set-spec : {M : Type 1} → statement M
 inverse-set-spec =
@@ -209,6 +220,7 @@ inverse-set-spec =
     inverse-ashr-requires
     cast-inverse-sext
     inverse-sext-requires
+    inverse-udiv-requires
     returns
     returns-2
     returns-3
@@ -224,4 +236,5 @@ inverse-set-spec =
     returns-13
     returns-14
     returns-15
-    returns-16)
+    returns-16
+    returns-17)
