@@ -59,7 +59,8 @@ fn value_at(bytes: &[u8], values: &[u64], i: u16) -> u64
         14 => operators::below_signed(read(values, n.a), read(values, n.b), width_of(bytes, n.a)),
         15 => operators::right_signed(read(values, n.a), read(values, n.b), w),
         16 => operators::extend(read(values, n.a), width_of(bytes, n.a), w),
-        17..=255 => 0,
+        17 => operators::quotient(read(values, n.a), read(values, n.b), w),
+        18..=255 => 0,
     }
 }
 

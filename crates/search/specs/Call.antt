@@ -1,4 +1,4 @@
--- A call of the run, from bytes: refusals 1 to 16, else the whole run.
+-- A call of the run, from bytes: refusals 1 to 16 and 20, else the whole run.
 use mathlib.Core.Path.{_≡_}
 use mathlib.Core.Bool.{Bool, _&&_, _||_}
 use mathlib.Core.List.{List, [], _∷_}
@@ -27,7 +27,7 @@ disagrees lo hi v = bitOutside lo v || bitOutside v hi
 unfoldable pub startFault : List ℕ → List ℕ → ℕ → Checked
 startFault s start i = firstOf i ((15, eqb (nodeAt s i .kind) 0 && disagrees (nodeAt s i .lo) (nodeAt s i .hi) (getD start i 0)) ∷ [])
 
--- 1 to 13 and 16 by the problem check, then 14, then 15 by ascending id
+-- 1 to 13, 16 and 20 by the problem check, then 14, then 15 by ascending id
 unfoldable pub refusals : List ℕ → List ℕ → Checked
 refusals s start = checked s then placesFault s start then firstBelow (startFault s start) (nodeCount s)
 

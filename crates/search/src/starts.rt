@@ -1,4 +1,4 @@
-// Refusals of a call: 1 to 13 and 16 by the problem check, then 14 and 15.
+// Refusals of a call: 1 to 13, 16 and 20 by the problem check, then 14 and 15.
 ghost use mathlib.Core.Path.{_≡_};
 ghost use Prim.Native.Nat.{_<_};
 ghost use Rattle.problem.specs.declared.Checked.the-variants.{Accepted};

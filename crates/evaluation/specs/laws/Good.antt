@@ -4,7 +4,7 @@ use mathlib.Core.List.{List}
 use Prim.Native.Nat.{ℕ, zero, suc, _<_}
 use native.Mathlib.Omega.{arith}
 use Rattle.operators.specs.declared.table.Rule.{Rule}
-use Rattle.operators.specs.declared.table.Rule.the-variants.{Free, One, Both, Equal, Choice, Sum, Part, Longer}
+use Rattle.operators.specs.declared.table.Rule.the-variants.{Free, One, Both, Equal, Choice, Sum, Part, Longer, Narrow}
 use Rattle.operators.specs.Table.{kindOf, shapeOf, RuleMet}
 use Rattle.operators.specs.laws.Meaning.{takes, takes-is}
 use Rattle.picking.specs.declared.spot.Three.{Three}
@@ -30,6 +30,7 @@ rule-first Choice w b f h = h
 rule-first Sum w b f h = h
 rule-first Part w b f h = h
 rule-first Longer w b f h = h
+rule-first Narrow w b f h = h
 
 module _ (s : List ℕ) (F : Facts s) (n : ℕ) (l : n < nodeCount s) where
   here : NodeFacts (nodeAt s n) n (widthAt s (nodeAt s n .a)) (widthAt s (nodeAt s n .b)) (widthAt s (nodeAt s n .c))

@@ -182,6 +182,20 @@ extend-requires c κs =
     let f = rw (m .match .keys17) at (r .fit) in
     rw (c .width-of3 .ensures, c .before .read28 .ensures) (f .0, le-of-lt (f .1), r .wide, f .2)
 
+read-requires-29 : tie.Need-read-requires-29
+read-requires-29 c κs =
+    reads _ _ _ (c .before .before .node-at .ensures) (c .before .before .before .before .before .pre) 0 (rw (c .match .keys18) (omega arith))
+
+read-requires-30 : tie.Need-read-requires-30
+read-requires-30 c κs =
+    reads _ _ _ (c .before .before .before .node-at .ensures) (c .before .before .before .before .before .before .pre) 1
+    (rw (c .before .match .keys18) (omega arith))
+
+quotient-requires : tie.Need-quotient-requires
+quotient-requires c κs =
+    let m = c .before .before in
+    stands _ _ _ (m .before .before .node-at .ensures) (m .before .before .before .before .before .pre) (omega arith) .ready .wide
+
 returns : tie.Need-returns
 returns c =
     let n = c .before .before .before in
@@ -279,6 +293,12 @@ returns-18 c =
 
 returns-19 : tie.Need-returns-19
 returns-19 c =
+    let m = c .before .before .before in
+    gives _ _ _ (m .before .before .node-at .ensures)
+    (rw (m .match .keys18, ← c .before .before .read29 .ensures, ← c .before .read30 .ensures) (c .quotient .ensures)) (omega arith)
+
+returns-20 : tie.Need-returns-20
+returns-20 c =
     let n = c .before .before in
     absurd (none-left 0 _ (omega arith) (rw (n .node-at .ensures) (kind-there _ _ _ (n .before .before .before .pre))) tt (c .match .rest))
 
@@ -335,6 +355,9 @@ value-at-spec =
     read-requires-28
     width-of-requires-3
     extend-requires
+    read-requires-29
+    read-requires-30
+    quotient-requires
     returns
     returns-2
     returns-3
@@ -353,4 +376,5 @@ value-at-spec =
     returns-16
     returns-17
     returns-18
-    returns-19)
+    returns-19
+    returns-20)
