@@ -7,7 +7,7 @@ use native.Mathlib.Decide.{decLe}
 use lib.Dec.{leb, eqb, eqb→eq, leb→le}
 use Rattle.words.specs.laws.Cases.{every-at}
 use Rattle.operators.specs.declared.table.Rule.{Rule}
-use Rattle.operators.specs.declared.table.Rule.the-variants.{Free, One, Both, Equal, Choice, Sum, Part, Longer}
+use Rattle.operators.specs.declared.table.Rule.the-variants.{Free, One, Both, Equal, Choice, Sum, Part, Longer, Narrow}
 use Rattle.operators.specs.Table.{kinds, kindCount, kindOf, shape, shapeOf, RuleMet}
 use Rattle.operators.specs.laws.Table.{or-right}
 use Rattle.operators.specs.laws.Meaning.{takes, takes-is}
@@ -25,6 +25,7 @@ fieldsOf Choice = 3
 fieldsOf Sum = 2
 fieldsOf Part = 2
 fieldsOf Longer = 1
+fieldsOf Narrow = 2
 
 fields-is : (k : ℕ) → fieldsOf (shapeOf k .rule) ≡ shapeOf k .fields
 fields-is k = eqb→eq _ _ (every-kind (λ o. eqb (fieldsOf (shape o .rule)) (shape o .fields)) kinds tt k)
@@ -54,6 +55,7 @@ rule-else Choice w b c x y e f h = (sym (e 0 (omega arith)) ∙ h .0, sym (e 1 (
 rule-else Sum w b c x y e f h = omega (arith, e 0 (omega arith), e 1 (omega arith))
 rule-else Part w b c x y e f h = omega (arith, e 0 (omega arith), f (omega arith))
 rule-else Longer w b c x y e f h = omega (arith, e 0 (omega arith))
+rule-else Narrow w b c x y e f h = (sym (e 0 (omega arith)) ∙ h .0, sym (e 1 (omega arith)) ∙ h .1, h .2)
 
 pub rule-of :
     (k w b c : ℕ) (x y : Three)

@@ -1,13 +1,16 @@
 -- The contract of `wal_run` determines its number and every lent place, and 255 is told exactly where `out` is too short.
 use mathlib.Core.Path.{_≡_, refl, ap}
-use mathlib.Core.Logic.{_↔_}
+use mathlib.Core.Bool.{Bool}
+use mathlib.Core.Logic.{⊎-elim, _↔_}
 use mathlib.Core.List.{List}
 use Prim.Native.Nat.{ℕ, _≤_, _<_}
 use native.Mathlib.Omega.{arith}
+use lib.Dec.{leb}
 use lib.ListN.{length}
+use borrow.Author.Tests.{leb-true}
 use Rattle.problem.specs.declared.Checked.{Checked}
 use Rattle.problem.specs.Layout.{nodeCount}
-use Rattle.problem.specs.Refusals.{numberOf as checkedNumber}
+use Rattle.problem.specs.Refusals.{numberOf as checkedNumber, checked}
 use Rattle.problem.specs.laws.First.{then-each, first-of-each, first-below-each}
 use Rattle.problem.specs.promises.Numbers.{numbered}
 use Rattle.search.specs.declared.Answer.{Answer}
@@ -29,18 +32,22 @@ wal-run-determined s start ws B out (called {vs} {a = a} h c) (called {vs = vs�
     let e = run-determined s start ws B vs vs′ a a′ c c′ in
     (e .0, ap (reported out) (e .1), ap (λ (x : Answer). outcomeCode (x .outcome)) (e .1))
 
--- ---- 255 is told where out is too short, and nowhere else: the numbers of refusals go up to 16
+-- ---- 255 is told where out is too short, and nowhere else: the numbers of refusals go up to 20
 
 abbrev Few : Checked → Type 0
-Few c = checkedNumber c ≤ 16
+Few c = checkedNumber c ≤ 20
 
-few-numbers : (s start : List ℕ) → checkedNumber (refusals s start) ≤ 16
+few-numbers : (s start : List ℕ) → checkedNumber (refusals s start) ≤ 20
 unfolding refusals placesFault startFault
 few-numbers s start =
-    then-each Few _ _ (omega (arith, numbered s .most))
-    (then-each Few _ _ (first-of-each Few 0 14 14 _ refl (λ k a b. omega arith) (omega arith))
-    (first-below-each _ Few (omega arith) (nodeCount s)
-    (λ i h. first-of-each Few i 15 15 _ refl (λ k a b. omega arith) (omega arith))))
+    then-each Few _ _
+    (⊎-elim (λ (l : checkedNumber (checked s) ≤ 13). omega arith)
+    (⊎-elim (λ (e : checkedNumber (checked s) ≡ 16). omega arith) (λ (e : checkedNumber (checked s) ≡ 20). omega arith)) (numbered s .known))
+    (then-each Few _ _ (first-of-each Few 0 few _ refl (λ k t. leb-true k 20 t) (omega arith))
+    (first-below-each _ Few (omega arith) (nodeCount s) (λ i h. first-of-each Few i few _ refl (λ k t. leb-true k 20 t) (omega arith))))
+  where
+    few : ℕ → Bool
+    few k = leb k 20
 
 pub short-told :
     {s start ws : List ℕ} {B : ℕ} {out vs o : List ℕ} {r : ℕ} → RunCode s start ws B out vs o r → (r ≡ tooShort) ↔ (length out < counted)
