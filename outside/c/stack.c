@@ -14,6 +14,7 @@ enum { ROOM = 1 << 20, MARK = 0xa5 };
 static uint8_t problem[LENGTH] = {'T', 'B', 'V', 1, 0, NODES & 255, NODES >> 8, ROOTS & 255, ROOTS >> 8};
 static uint64_t values[NODES], tape[WORDS], out[WAL_RUN_OUT];
 static uint64_t spot[12] = {64, 64, 0, 0, 0, 0, ~0ull, ~0ull, 0, 3, 5, 0};
+static uint64_t narrow[12] = {16, 16, 0, 0, 0, 0, 65535, 65535, 0, 3, 5, 0};
 
 static void put(int id, uint8_t kind, uint8_t width, int a, int b) {
     uint8_t *node = problem + 9 + 24 * id;
@@ -52,23 +53,26 @@ static void *need(void *none) {
     if (wal_need(problem, LENGTH, 1000, out, WAL_NEED_OUT) != WAL_ACCEPTED) abort();
     return none;
 }
-/* The kinds with two operands of one width, and the node's width over operands of 64 bits. */
+/* The kinds with two operands of one width, and the node's width over operands of 64 bits; of 16 for udiv. */
 static const struct {
     uint8_t kind, width;
 } pairs[] = {{WAL_AND, 64},  {WAL_XOR, 64}, {WAL_ADD, 64},  {WAL_MUL, 64},         {WAL_SHL, 64},
-             {WAL_LSHR, 64}, {WAL_EQ, 1},   {WAL_BELOW, 1}, {WAL_SIGNED_BELOW, 1}, {WAL_ASHR, 64}};
+             {WAL_LSHR, 64}, {WAL_EQ, 1},   {WAL_BELOW, 1}, {WAL_SIGNED_BELOW, 1}, {WAL_ASHR, 64},
+             {WAL_UDIV, 16}};
 enum { PAIRS = sizeof pairs / sizeof *pairs };
+static const uint64_t *spot_of(int at) { return pairs[at].kind == WAL_UDIV ? narrow : spot; }
 
 static void *picks(void *none) {
     for (int at = 0; at < PAIRS; at++)
         for (uint32_t position = 0; position < 2; position++)
             for (uint8_t which = 0; which < 2; which++)
-                if (wal_pick(pairs[at].kind, pairs[at].width, 0, spot, 12, position, 1, 9, which, out, 1) > 1) abort();
+                if (wal_pick(pairs[at].kind, pairs[at].width, 0, spot_of(at), 12, position, 1, 9, which, out, 1) > 1)
+                    abort();
     return none;
 }
 static void *essential(void *none) {
     for (int at = 0; at < PAIRS; at++)
-        if (wal_essential(pairs[at].kind, pairs[at].width, 0, spot, 12, 0, 1) > 1) abort();
+        if (wal_essential(pairs[at].kind, pairs[at].width, 0, spot_of(at), 12, 0, 1) > 1) abort();
     return none;
 }
 

@@ -44,7 +44,8 @@ enum {
     WAL_EXTRACT = 13,
     WAL_SIGNED_BELOW = 14, /* a below b, signed */
     WAL_ASHR = 15,         /* a shifted right, its top bit filling */
-    WAL_SIGN_EXTEND = 16   /* a with its top bit repeated in front */
+    WAL_SIGN_EXTEND = 16,  /* a with its top bit repeated in front */
+    WAL_UDIV = 17          /* a divided by b, unsigned, at most 16 bits; all ones where b is 0 */
 };
 
 /* Refusals, in the order of checking; in brackets what the place is. */
@@ -56,8 +57,9 @@ enum {
     WAL_NODES = 4,         /* more than 1,024 nodes */
     WAL_ROOTS = 5,         /* more than 256 roots */
     WAL_LENGTH = 6,        /* the length is not 9 + 24 for each node + 2 for each root */
-    WAL_KIND = 7,          /* [node] the kind is over 16 */
+    WAL_KIND = 7,          /* [node] the kind is over 17 */
     WAL_WIDTH = 8,         /* [node] the width is 0 or over 64 */
+    WAL_DIVISION = 20,     /* [node] a division of more than 16 bits */
     WAL_OPERAND = 9,       /* [node] an operand's id is not below the node's own */
     WAL_UNUSED_FIELD = 10, /* [node] a field that the kind does not use is not zero */
     WAL_WIDTH_RULE = 11,   /* [node] the widths do not fit */
@@ -88,20 +90,20 @@ enum { WAL_NEED_CHAIN = 0, WAL_NEED_WORDS = 1, WAL_NEED_OUT = 2 };
 static inline unsigned wal_number(uint64_t refusal) { return (unsigned)(refusal & 255); }
 static inline uint64_t wal_place(uint64_t refusal) { return refusal >> 8; }
 
-/* The problem check: refusals 1 to 13 and 16. */
+/* The problem check: refusals 1 to 13, 16 and 20. */
 uint64_t wal_check(const uint8_t *problem, size_t problem_len);
 
-/* A whole run: refusals 1 to 16. Of the values only the variables' places are read; after a verdict the
+/* A whole run: those, and 14 and 15. Of the values only the variables' places are read; after a verdict the
    first N hold every node's value and those after them what they held, and after a refusal none is
    changed. out takes verdict, moves, steps and words; beside a refusal WAL_REFUSED, 0, 0 and 0. Words of
    out after the fourth are not touched. */
 uint64_t wal_run(const uint8_t *problem, size_t problem_len, uint64_t *values, size_t values_len,
                  const uint64_t *tape, size_t tape_len, uint16_t budget, uint64_t *out, size_t out_len);
 
-/* How long a tape a problem needs: refusals 1 to 13. out takes H, the longest chain of operand links under
-   any root, and budget x (1 + 2H); beside a refusal 0 and 0. No move makes more than H steps, and a run of
-   that budget or a smaller one that is lent so many words never says WAL_ENDED, from whatever start. Words
-   of out after the second are not touched. */
+/* How long a tape a problem needs: refusals 1 to 13, 16 and 20. out takes H, the longest chain of operand
+   links under any root, and budget x (1 + 2H); beside a refusal 0 and 0. No move makes more than H steps,
+   and a run of that budget or a smaller one that is lent so many words never says WAL_ENDED, from whatever
+   start. Words of out after the second are not touched. */
 uint64_t wal_need(const uint8_t *problem, size_t problem_len, uint16_t budget, uint64_t *out, size_t out_len);
 
 /* The pick from the inverse (which = 0) or consistent (else) set of an operand's position: 1 with the

@@ -194,7 +194,7 @@ fn show(counts: &Counts) {
     for verdict in Verdict::ALL {
         println!("verdict {:7} {:>8}", verdict.name(), counts.verdicts[verdict as usize]);
     }
-    for number in 1..=16 {
+    for number in runs::refusals() {
         println!("refusal {number:<7} {:>8}", counts.refusals[number]);
     }
     println!(

@@ -58,6 +58,9 @@ fn spoilt(rng: &mut Rng, kind: Kind) -> Vec<(&'static str, Asked)> {
     if kind != Kind::Extract {
         faults.push(("a lowest bit that the kind has not", with(&|q| q.low = 7)));
     }
+    if kind == Kind::Div {
+        faults.push(("a division of 17 bits", with(&|q| (q.width, q.words[0], q.words[1]) = (17, 17, 17))));
+    }
     for unused in (kind.operands()..3).flat_map(|position| [0, 3, 6, 9].map(|group| group + position)) {
         faults.push(("an operand that the kind has not", with(&|q| q.words[unused] = 1)));
     }

@@ -17,7 +17,7 @@ use std::path::Path;
 pub struct Counts {
     pub cases: u64,
     pub verdicts: [u64; 4],
-    pub refusals: [u64; 17],
+    pub refusals: [u64; 21],
     pub promised: u64,
     pub moves: u64,
     pub steps: u64,
@@ -40,7 +40,7 @@ impl Counts {
             .filter(|&v| self.verdicts[v as usize] == 0)
             .map(|v| v.name().to_string());
         let refusals =
-            (1..=16).filter(|&number| self.refusals[number] == 0).map(|number| format!("refusal {number}"));
+            refusals().filter(|&number| self.refusals[number] == 0).map(|number| format!("refusal {number}"));
         let promised = (self.promised == 0).then(|| "a promised model".into());
         let steps = Kind::ALL.into_iter().flat_map(|kind| {
             let unused = move |&position: &usize| self.followed[kind as usize][position].contains(&0);
@@ -79,6 +79,11 @@ impl Counts {
             Some((position, set)) => self.followed[step.kind as usize][position][set as usize] += 1,
         }
     }
+}
+
+/// The numbers of a run's refusals, in the order of checking.
+pub fn refusals() -> impl Iterator<Item = usize> {
+    damage::FAULTS.into_iter().chain([14, 15]).map(usize::from)
 }
 
 /// A case whose answers differ, and how.

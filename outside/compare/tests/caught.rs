@@ -33,6 +33,8 @@ enum Wrong {
     TakesOneOperatorForAnother,
     OrdersSignedAsUnsigned,
     FillsWithZeros,
+    DividesByZeroToZero,
+    DividesProductsAlone,
 }
 
 use Wrong::*;
@@ -122,8 +124,15 @@ impl Subject for Wrong {
         if *self == FillsWithZeros && asked.kind == Kind::Ashr.number() {
             asked.kind = Kind::Lshr.number();
         }
+        let divides = asked.kind == Kind::Div.number() && asked.position == 0;
+        if *self == DividesByZeroToZero && divides && asked.words[10] == 0 {
+            asked.target ^= model::ones(asked.width);
+        }
         let mut picked = [0];
         let found = Model.pick(&asked, set, proposal, &mut picked);
+        if *self == DividesProductsAlone && divides && picked[0] % asked.target.max(1) != 0 {
+            return 0;
+        }
         if found != 1 || *self == ForgetsToGoRound && picked[0] < proposal & model::ones(width) {
             return 0;
         }
@@ -199,6 +208,8 @@ fn wrong_picks_are_caught_at_few_bits_and_at_many() {
         TakesOneOperatorForAnother,
         OrdersSignedAsUnsigned,
         FillsWithZeros,
+        DividesByZeroToZero,
+        DividesProductsAlone,
     ];
     for (number, wrong) in wrongs.into_iter().enumerate() {
         assert!(narrow::compare(&wrong, extent).is_err(), "wrong pick {number} passed at few bits");

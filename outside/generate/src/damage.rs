@@ -1,11 +1,11 @@
-//! Faults in a problem's bytes, at least one way for each of refusals 1 to 13 and 16.
+//! Faults in a problem's bytes, at least one way for each of the problem's refusals.
 
 use crate::rng::Rng;
 use model::problem::{Problem, HEADER, NODE};
 use model::{ones, Kind};
 
-/// The refusals that a problem's bytes can meet.
-pub const FAULTS: [u8; 14] = [1, 2, 3, 4, 5, 6, 7, 8, 9, 10, 11, 12, 13, 16];
+/// The refusals that a problem's bytes can meet, in the order of checking.
+pub const FAULTS: [u8; 15] = [1, 2, 3, 4, 5, 6, 7, 8, 20, 9, 10, 11, 12, 13, 16];
 
 /// The bytes of a well-formed problem with one fault of the sort that refusal `number` names, at
 /// any place; unchanged where the problem offers no place for it.
@@ -18,7 +18,7 @@ pub fn damaged(rng: &mut Rng, problem: &Problem, number: u8) -> Vec<u8> {
         4 => put16(&mut bytes, 5, rng.between(1025, 65_535)),
         5 => put16(&mut bytes, 7, rng.between(257, 65_535)),
         6 => spoil_length(rng, &mut bytes),
-        7..=12 => spoil_node(rng, problem, number, &mut bytes),
+        7..=12 | 20 => spoil_node(rng, problem, number, &mut bytes),
         13 => spoil_root(rng, problem, &mut bytes),
         16 => repeat_root(rng, problem, &mut bytes),
         _ => panic!("no fault of refusal {number} in a problem's bytes"),
@@ -84,6 +84,10 @@ fn spoil_node(rng: &mut Rng, problem: &Problem, number: u8, bytes: &mut [u8]) {
                 put64(bytes, if rng.chance(50) { lo } else { hi }, 1 << rng.below(64));
             }
         }
+        20 => {
+            bytes[at] = Kind::Div.number();
+            bytes[at + 1] = rng.between(17, 64) as u8;
+        }
         11 if !inner && id > 0 => {
             bytes[at..at + NODE].fill(0);
             bytes[at] = rng.one_of(&[Kind::Concat, Kind::Eq, Kind::Add]).number();
@@ -142,7 +146,7 @@ mod tests {
 
     #[test]
     fn every_refusal_is_reached_at_many_places() {
-        let mut places = vec![std::collections::BTreeSet::new(); 17];
+        let mut places = vec![std::collections::BTreeSet::new(); 21];
         for index in 0..20_000 {
             let mut rng = Rng::of_case(3, index);
             let problem = random::problem(&mut rng, 30);

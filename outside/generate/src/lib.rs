@@ -7,7 +7,7 @@
 //! | `random`   | well-formed problems over every kind and width                         |
 //! | `solved`   | problems with a known solution                                         |
 //! | `tight`    | problems whose runs use every word that they may need                  |
-//! | `damage`   | one fault in a problem's bytes, for each of refusals 1 to 13 and 16    |
+//! | `damage`   | one fault in a problem's bytes, for each of the problem's refusals     |
 //! | `case`     | everything that a run is lent, of all sorts mixed                      |
 //! | `spots`    | single nodes for picking: operators, pairs, values, targets            |
 //! | `tape`     | the words of a run as it asks for them, some share for the inverse     |

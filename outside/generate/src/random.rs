@@ -101,7 +101,7 @@ fn operand(rng: &mut Rng, builder: &mut Builder, width: u32) -> u16 {
 
 /// A node of a kind, with new leaves for operands that are not there.
 fn node(rng: &mut Rng, builder: &mut Builder, kind: Kind, widths: Widths) -> u16 {
-    let width = widths.draw(rng);
+    let width = widths.draw(rng).min(kind.widest());
     match kind {
         Kind::Variable | Kind::Constant => leaf(rng, builder, width),
         Kind::If => {

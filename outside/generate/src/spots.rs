@@ -3,8 +3,9 @@
 use crate::rng::Rng;
 use model::{ones, Kind, Operator, Spot};
 
-/// An operator of a kind whose operands have `from` to `to` bits. A condition has one bit, and the
-/// parts of a concatenation share that many between them.
+/// An operator of a kind whose operands have `from` to `to` bits. A condition has one bit, the parts of a
+/// concatenation share that many between them, and a division has at most 16, from 5 on where more are
+/// asked for.
 pub fn operator(rng: &mut Rng, kind: Kind, from: usize, to: usize) -> Operator {
     let x = rng.between(from, to) as u32;
     let (width, widths, low) = match kind {
@@ -23,6 +24,10 @@ pub fn operator(rng: &mut Rng, kind: Kind, from: usize, to: usize) -> Operator {
         Kind::SignExtend => {
             let x = x.min(63);
             (rng.between(x as usize + 1, 64) as u32, [x, 0, 0], 0)
+        }
+        Kind::Div => {
+            let x = rng.between(from.min(5), to.min(16)) as u32;
+            (x, [x, x, 0], 0)
         }
         _ => (x, [x, x, 0], 0),
     };

@@ -89,7 +89,7 @@ pub enum Set {
     Consistent,
 }
 
-/// A node taken out of its problem: kind (2 to 16), width, the lowest bit of extract (else 0), and of
+/// A node taken out of its problem: kind (2 to 17), width, the lowest bit of extract (else 0), and of
 /// each operand the width, lo, hi and current value (zeros where there is none).
 #[derive(Clone, Copy, Debug, Default, PartialEq, Eq)]
 pub struct Spot {

@@ -2,7 +2,7 @@
 
 use std::fmt::{Display, Formatter};
 
-/// A refusal's number, 1 to 16, and its place: a node's id, a root's position, or 0.
+/// A refusal's number and its place: a node's id, a root's position, or 0.
 #[derive(Clone, Copy, Debug, PartialEq, Eq)]
 pub struct Refusal {
     pub number: u8,
@@ -31,7 +31,7 @@ impl Refusal {
 
     pub fn at(self) -> Place {
         match self.number {
-            7..=12 | 15 => Place::Node(self.place),
+            7..=12 | 15 | 20 => Place::Node(self.place),
             13 | 16 => Place::Root(self.place),
             _ => Place::Whole,
         }
@@ -46,7 +46,7 @@ impl Refusal {
             4 => "more than 1,024 nodes",
             5 => "more than 256 roots",
             6 => "the length is not 9 + 24 for each node + 2 for each root",
-            7 => "the kind is over 16",
+            7 => "the kind is over 17",
             8 => "the width is 0 or over 64",
             9 => "an operand's id is not below the node's own",
             10 => "a field that the kind does not use is not zero",
@@ -56,6 +56,7 @@ impl Refusal {
             14 => "fewer places than nodes",
             15 => "a variable's start does not agree with its pair",
             16 => "the root stands earlier in the file",
+            20 => "a division of more than 16 bits",
             _ => "no such refusal",
         }
     }

@@ -121,7 +121,12 @@ fn spot(kind: u8, width: u32, low: u32, words: &[u64], position: u32, target: u6
     let at = |group: usize, position: usize| words.get(3 * group + position).copied().unwrap_or(0);
     let unused = (kind.operands()..3).all(|position| (0..4).all(|group| at(group, position) == 0));
     let sized = (0..kind.operands()).all(|position| (1..=64).contains(&at(0, position)));
-    if !unused || !sized || !(1..=64).contains(&width) || low > 64 || (kind != Kind::Extract && low != 0) {
+    if !unused
+        || !sized
+        || !(1..=kind.widest()).contains(&width)
+        || low > 64
+        || (kind != Kind::Extract && low != 0)
+    {
         return None;
     }
     let positions = [0, 1, 2];

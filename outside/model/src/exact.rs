@@ -112,6 +112,13 @@ fn meets_inverse(spot: &Spot, position: usize, t: u64, word: Pair) -> bool {
             let part = t & operator.largest(0);
             word.agrees(part) && operator.apply([part, 0, 0]) == t
         }
+        (Kind::Div, 0) if b == 0 => t == all,
+        (Kind::Div, 0) => within(word, w, b * t, b * t + b - 1),
+        // A divisor of 0 gives all ones; any other one is above a / (t + 1), and at most a / t.
+        (Kind::Div, _) => {
+            let most = a.checked_div(t).unwrap_or(all);
+            t == all && word.agrees(0) || within(word, w, a / (t + 1) + 1, most)
+        }
     }
 }
 
@@ -140,6 +147,12 @@ fn meets_consistent(spot: &Spot, position: usize, t: u64, word: Pair) -> bool {
         (Kind::SignedBelow, _) => {
             let (spot, word) = unsigned(spot, word);
             meets_consistent(&spot, position, t, word)
+        }
+        (Kind::Div, 0) => meets_dividend(word, w, t),
+        (Kind::Div, _) => {
+            let all = ones(w);
+            let most = all.checked_div(t).unwrap_or(all);
+            t == all && word.agrees(0) || within(word, w, 1, most)
         }
         (Kind::Not | Kind::Extract | Kind::SignExtend, _) => meets_inverse(spot, position, t, word),
         (Kind::Variable | Kind::Constant, _) => panic!("no operands"),
@@ -198,6 +211,27 @@ fn shifted(kind: Kind, w: u32, word: Pair, by: u64) -> Pair {
     }
     let shift = |v: u64| if kind == Kind::Shl { v << by & ones(w) } else { v >> by };
     Pair { lo: shift(word.lo), hi: shift(word.hi) }
+}
+
+/// Whether some s divides a value that agrees with a word to the target. s = 0 divides every value to all
+/// ones. Any other s divides those from s · t to s · t + s - 1: to 0 all that are below some s, and where
+/// s has come up to t these ranges leave no gaps, up to the greatest value.
+fn meets_dividend(word: Pair, w: u32, t: u64) -> bool {
+    let all = ones(w);
+    match t {
+        0 => word.lo < all,
+        t if t == all => true,
+        _ => {
+            let single = 1..t.min(all / t + 1);
+            single.into_iter().any(|s| within(word, w, s * t, s * t + s - 1)) || within(word, w, t * t, all)
+        }
+    }
+}
+
+/// Whether a value from `least` to `most` agrees with a word of w bits.
+fn within(word: Pair, w: u32, least: u64, most: u64) -> bool {
+    let agrees = |part: Pair| word.meet(part).is_some();
+    least <= word.hi && first_from(&agrees, w, least).is_some_and(|v| v <= most)
 }
 
 /// Whether a shift amount that agrees with `word` is good. All amounts from w on do the same.

@@ -5,7 +5,7 @@
 //! |--------------|---------------------------------------------------------------------------|
 //! | `word`       | widths, ternary words, what "agrees" means                                |
 //! | `operator`   | the table of kinds: operands, width rule, meaning                         |
-//! | `problem`    | problem bytes, refusals 1 to 13 and 16, evaluation, H, the tape's length  |
+//! | `problem`    | problem bytes, their refusals, evaluation, H, the tape's length           |
 //! | `pairs`      | fixed bits of inner nodes                                                 |
 //! | `definition` | the three sets and the pick by going through all values (small widths)    |
 //! | `exact`      | the same sets and pick at every width                                     |

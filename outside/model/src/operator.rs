@@ -22,13 +22,14 @@ pub enum Kind {
     SignedBelow,
     Ashr,
     SignExtend,
+    Div,
 }
 
 use Kind::*;
 
 impl Kind {
     /// How many there are: refusal 7 begins at this number.
-    pub const COUNT: usize = 17;
+    pub const COUNT: usize = 18;
 
     pub const ALL: [Kind; Kind::COUNT] = [
         Variable,
@@ -48,6 +49,7 @@ impl Kind {
         SignedBelow,
         Ashr,
         SignExtend,
+        Div,
     ];
 
     /// The kind of a number, if there is one.
@@ -64,7 +66,7 @@ impl Kind {
         match self {
             Variable | Constant => 0,
             Not | Extract | SignExtend => 1,
-            And | Xor | Add | Mul | Shl | Lshr | Eq | Below | Concat | SignedBelow | Ashr => 2,
+            And | Xor | Add | Mul | Shl | Lshr | Eq | Below | Concat | SignedBelow | Ashr | Div => 2,
             If => 3,
         }
     }
@@ -75,6 +77,15 @@ impl Kind {
             2
         } else {
             self.operands()
+        }
+    }
+
+    /// The most bits that its node may have: a division 16.
+    pub fn widest(self) -> u32 {
+        if self == Div {
+            16
+        } else {
+            64
         }
     }
 
@@ -98,6 +109,7 @@ impl Kind {
             SignedBelow => "slt",
             Ashr => "ashr",
             SignExtend => "sext",
+            Div => "udiv",
         }
     }
 }
@@ -120,7 +132,7 @@ impl Operator {
         match self.kind {
             Variable | Constant => true,
             Not => a == w,
-            And | Xor | Add | Mul | Shl | Lshr | Ashr => a == w && b == w,
+            And | Xor | Add | Mul | Shl | Lshr | Ashr | Div => a == w && b == w,
             Eq | Below | SignedBelow => a == b && w == 1,
             If => a == 1 && b == w && c == w,
             Concat => a + b == w,
@@ -159,6 +171,8 @@ impl Operator {
                 u128::from(a < b)
             }
             SignExtend => sign_extended(values[0], self.widths[0], w).into(),
+            // SMT-LIB: all ones for a zero divisor.
+            Div => a.checked_div(b).unwrap_or(modulus - 1),
         };
         debug_assert!(value < modulus);
         value as u64
@@ -250,6 +264,20 @@ mod tests {
             }
         }
         assert_eq!(apply(Ashr, 64, [64, 64, 0], 0, [1 << 63, u64::MAX, 0]), u64::MAX);
+    }
+
+    /// What is left of the dividend, zero divisor included: SMT-LIB's remainder is then the dividend.
+    #[test]
+    fn the_remainder_is_the_dividend_less_divisor_times_quotient() {
+        for a in 0..16 {
+            for b in 0..16 {
+                let quotient = apply(Div, 4, [4, 4, 0], 0, [a, b, 0]);
+                let product = apply(Mul, 4, [4, 4, 0], 0, [b, quotient, 0]);
+                assert_eq!(a.wrapping_sub(product) & 15, a.checked_rem(b).unwrap_or(a));
+            }
+        }
+        assert_eq!(apply(Div, 16, [16, 16, 0], 0, [65_535, 0, 0]), 65_535);
+        assert_eq!(apply(Div, 16, [16, 16, 0], 0, [7, 0, 0]), 65_535);
     }
 
     #[test]

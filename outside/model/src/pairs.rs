@@ -67,6 +67,9 @@ pub fn result(operator: &Operator, [a, b, c]: [Pair; 3]) -> Pair {
             Pair::fixed(0)
         }
         Kind::SignedBelow => Pair::free(1),
+        // "the quotient if both sides are fully fixed, else free"
+        Kind::Div if a.is_fixed() && b.is_fixed() => Pair::fixed(operator.apply([a.lo, b.lo, 0])),
+        Kind::Div => Pair::free(w),
         // "the chosen branch if the condition is fixed; else the bits fixed alike in both branches"
         Kind::If if a == Pair::fixed(1) => b,
         Kind::If if a == Pair::fixed(0) => c,
@@ -209,6 +212,7 @@ mod tests {
                             }
                         );
                     }
+                    Kind::Div => assert_eq!(fixed, a.is_fixed() && b.is_fixed()),
                     Kind::If if a.is_fixed() => assert_eq!(found, if a.lo == 1 { b } else { c }),
                     Kind::If => {
                         assert_eq!(fixed, fixed_at(b, i) && fixed_at(c, i) && bit(b.lo, i) == bit(c.lo, i))

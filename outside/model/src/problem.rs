@@ -1,4 +1,4 @@
-//! Problem bytes: reading them with refusals 1 to 13 and 16, writing them, evaluation, H, and how long a tape it takes.
+//! Problem bytes: reading them with refusals 1 to 13, 16 and 20, writing them, evaluation, H, and how long a tape it takes.
 
 use crate::operator::{Kind, Operator};
 use crate::word::Pair;
@@ -86,7 +86,7 @@ pub fn read(bytes: &[u8]) -> Result<Problem, Refusal> {
     }
 }
 
-/// One node from its 24 bytes, after those before it; or its first refusal of 7 to 12.
+/// One node from its 24 bytes, after those before it; or its first refusal of 7, 8, 20 and 9 to 12.
 fn read_node(part: &[u8], before: &[Node]) -> Result<Node, Refusal> {
     let own = before.len();
     let refuse = |number| Err(Refusal { number, place: own });
@@ -96,6 +96,9 @@ fn read_node(part: &[u8], before: &[Node]) -> Result<Node, Refusal> {
     let width = u32::from(part[1]);
     if width == 0 || width > 64 {
         return refuse(8);
+    }
+    if width > kind.widest() {
+        return refuse(20);
     }
     let fields = [2, 4, 6].map(|at| number(&part[at..at + 2]) as u16);
     let pair = Pair { lo: number(&part[8..16]), hi: number(&part[16..24]) };

@@ -168,6 +168,38 @@ fn signed_words() {
 }
 
 #[test]
+fn division() {
+    let by = |s| spot(Kind::Div, 4, Pair::free(4), s);
+    assert_eq!(members(&by(3), Set::Inverse, 0, 2), [6, 7, 8]);
+    assert_eq!(members(&by(3), Set::Inverse, 0, 6), []);
+    assert_eq!(members(&by(0), Set::Inverse, 0, 15), (0..=15).collect::<Vec<_>>());
+    assert_eq!(members(&by(0), Set::Inverse, 0, 0), []);
+    let mut thirteen = by(1);
+    thirteen.values[0] = 13;
+    assert_eq!(members(&thirteen, Set::Inverse, 1, 3), [4]);
+    assert_eq!(members(&thirteen, Set::Inverse, 1, 0), [14, 15]);
+    assert_eq!(members(&thirteen, Set::Inverse, 1, 15), [0]);
+    // 3, then 6 and 7, then from 9 on without gaps.
+    let quotient = [3, 6, 7, 9, 10, 11, 12, 13, 14, 15];
+    assert_eq!(members(&by(1), Set::Consistent, 0, 3), quotient);
+    assert_eq!(members(&by(1), Set::Consistent, 0, 0), (0..=14).collect::<Vec<_>>());
+    assert_eq!(members(&by(1), Set::Consistent, 1, 15), [0, 1]);
+    assert_eq!(members(&by(1), Set::Consistent, 1, 3), [1, 2, 3, 4, 5]);
+    let wide = |width| Problem {
+        nodes: vec![variable(width, Pair { lo: 0, hi: 1 }), node(Kind::Div, width, [0, 0, 0])],
+        roots: vec![],
+    };
+    assert_eq!(read(&wide(16).bytes()).err(), None);
+    assert_eq!(read(&wide(17).bytes()).err(), Some(Refusal { number: 20, place: 1 }));
+    // 20 comes after 8 and before 9.
+    let mut bytes = wide(17).bytes();
+    bytes[9 + 24 + 2] = 9;
+    assert_eq!(read(&bytes).err(), Some(Refusal { number: 20, place: 1 }));
+    bytes[9 + 24 + 1] = 65;
+    assert_eq!(read(&bytes).err(), Some(Refusal { number: 8, place: 1 }));
+}
+
+#[test]
 fn limits() {
     let refusal = |problem: &Problem| read(&problem.bytes()).err();
     let wide = |width| Problem { nodes: vec![variable(width, Pair { lo: 0, hi: 1 })], roots: vec![] };

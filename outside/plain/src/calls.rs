@@ -2,7 +2,7 @@
 //! two are measured at the same work. Never inlined, as the library's are not.
 
 use crate::kind::{COUNT, EXTRACT};
-use crate::layout::{check as check_problem, height, operands, Refusal};
+use crate::layout::{check as check_problem, height, operands, widest, Refusal};
 use crate::mask;
 use crate::picking::{essential as is_essential, pick_consistent, pick_inverse, Spot};
 use crate::search::{run as run_problem, Outcome};
@@ -93,10 +93,10 @@ pub fn essential(kind: u8, width: u32, low: u32, words: &[u64; 12], position: u3
 #[inline]
 fn spot(kind: u8, width: u32, low: u32, words: &[u64; 12], position: u32, target: u64) -> Option<Spot> {
     let count = operands(kind);
-    if kind >= COUNT || position as usize >= count || width == 0 || width > 64 || target & !mask(width) != 0 {
+    if kind >= COUNT || position as usize >= count || kind != EXTRACT && low != 0 || low > 64 {
         return None;
     }
-    if kind != EXTRACT && low != 0 || low > 64 {
+    if width == 0 || width > widest(kind) || target & !mask(width) != 0 {
         return None;
     }
     let mut spot = Spot { kind, width, low, ..Spot::default() };

@@ -1,4 +1,4 @@
-//! Problem bytes as they are lent: nodes of 24 bytes, roots, refusals 1 to 13 and 16, and H.
+//! Problem bytes as they are lent: nodes of 24 bytes, roots, the problem's refusals, and H.
 
 use crate::kind::*;
 use crate::mask;
@@ -46,8 +46,18 @@ pub fn hi(node: &Node) -> u64 {
 /// How many operands a kind has; none that is not there.
 #[inline]
 pub fn operands(kind: u8) -> usize {
-    const OPERANDS: [u8; COUNT as usize] = [0, 0, 1, 2, 2, 2, 2, 2, 2, 2, 2, 3, 2, 1, 2, 2, 1];
+    const OPERANDS: [u8; COUNT as usize] = [0, 0, 1, 2, 2, 2, 2, 2, 2, 2, 2, 3, 2, 1, 2, 2, 1, 2];
     OPERANDS.get(usize::from(kind)).map_or(0, |&count| count.into())
+}
+
+/// The most bits of a kind's node.
+#[inline]
+pub fn widest(kind: u8) -> u32 {
+    if kind == UDIV {
+        16
+    } else {
+        64
+    }
 }
 
 /// The nodes and roots of an accepted problem.
@@ -105,7 +115,7 @@ fn parts(bytes: &[u8]) -> Result<Problem<'_>, u8> {
     Ok(Problem { nodes: nodes.as_chunks().0, roots: roots.as_chunks().0 })
 }
 
-/// A node's refusals, 7 to 12.
+/// A node's refusals, 7, 8, 20 and 9 to 12.
 fn check_node(node: &Node, before: &[Node]) -> Result<(), u8> {
     let (kind, w) = (kind(node), width(node));
     if kind >= COUNT {
@@ -113,6 +123,9 @@ fn check_node(node: &Node, before: &[Node]) -> Result<(), u8> {
     }
     if w == 0 || w > 64 {
         return Err(8);
+    }
+    if w > widest(kind) {
+        return Err(20);
     }
     let count = operands(kind);
     let mut widths = [0; 3];
@@ -151,7 +164,7 @@ pub fn widths_fit(kind: u8, w: u32, [a, b, c]: [u32; 3], low: u32) -> bool {
     match kind {
         VARIABLE | CONSTANT => true,
         NOT => a == w,
-        AND..=LSHR | ASHR => a == w && b == w,
+        AND..=LSHR | ASHR | UDIV => a == w && b == w,
         EQ | BELOW | SIGNED_BELOW => a == b && w == 1,
         IF => a == 1 && b == w && c == w,
         CONCAT => a + b == w,

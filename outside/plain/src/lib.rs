@@ -6,7 +6,7 @@
 //! |-----------|-----------------------------------------------------------|
 //! | `member`  | the least member of a ternary word within a range         |
 //! | `picking` | inverse and consistent picks and the essential test       |
-//! | `layout`  | problem bytes: nodes, roots, refusals 1 to 13 and 16, H   |
+//! | `layout`  | problem bytes: nodes, roots, their refusals, H            |
 //! | `values`  | evaluation and fixed bits of all nodes                    |
 //! | `search`  | the run                                                   |
 //! | `calls`   | the library's calls, in its numbers                       |
@@ -37,8 +37,9 @@ pub mod kind {
     pub const SIGNED_BELOW: u8 = 14;
     pub const ASHR: u8 = 15;
     pub const SIGN_EXTEND: u8 = 16;
+    pub const UDIV: u8 = 17;
     /// How many there are: refusal 7 begins at this number.
-    pub const COUNT: u8 = 17;
+    pub const COUNT: u8 = 18;
 }
 
 /// The `count` low bits, for any count up to 64.

@@ -59,6 +59,9 @@ pub fn pick_inverse(spot: &Spot, position: usize, t: u64, p: u64) -> Option<u64>
             let part = t & mask(spot.widths[0]);
             x.only(part).filter(|_| sign_extended(part, spot.widths[0]) & mask(w) == t)
         }
+        (UDIV, 0) if b == 0 => x.pick_if(t == mask(w), p),
+        (UDIV, 0) => x.from(b * t).up_to(b * t + b - 1).pick(p),
+        (UDIV, _) => pick_denominator(x, w, a, t, p),
         _ => x.with(mask(w) << spot.low, t << spot.low).pick(p),
     }
 }
@@ -89,6 +92,11 @@ pub fn pick_consistent(spot: &Spot, position: usize, t: u64, p: u64) -> Option<u
         (BELOW, _) => x.pick(p),
         (CONCAT, 0) => x.only(t >> spot.widths[1]),
         (CONCAT, _) => x.only(t & mask(spot.widths[1])),
+        (UDIV, 0) if t == mask(w) => x.pick(p),
+        (UDIV, 0) if t == 0 => x.up_to(mask(w) - 1).pick(p),
+        (UDIV, 0) => next_dividend(x, t, p).or_else(|| next_dividend(x, t, 0)),
+        (UDIV, _) if t == mask(w) => x.up_to(1).pick(p),
+        (UDIV, _) => x.from(1).up_to(mask(w).checked_div(t).unwrap_or(mask(w))).pick(p),
         (SIGNED_BELOW, _) if t == 0 => x.pick(p),
         // Every number but the greatest is below another, every one but the least above another.
         (SIGNED_BELOW, 0) => pick_except(x, mask(spot.widths[0]) >> 1, p),
@@ -235,6 +243,31 @@ fn pick_above(x: Part, s: u64, t: u64, p: u64) -> Option<u64> {
         x.from(s.checked_add(1)?).pick(p)
     } else {
         x.up_to(s).pick(p)
+    }
+}
+
+/// a udiv x = t: above a / (t + 1) and at most a / t; 0 where t is all ones.
+#[inline]
+fn pick_denominator(x: Part, w: u32, a: u64, t: u64, p: u64) -> Option<u64> {
+    let divisors = x.from(a / (t + 1) + 1).up_to(a.checked_div(t).unwrap_or(mask(w)));
+    if t == mask(w) {
+        pick_of_all([x.up_to(0), divisors].into_iter(), p)
+    } else {
+        divisors.pick(p)
+    }
+}
+
+/// The least member at or above p that some s divides to t, which is neither 0 nor all ones: one from s · t
+/// to s · t + s - 1.
+#[inline]
+fn next_dividend(x: Part, t: u64, mut p: u64) -> Option<u64> {
+    loop {
+        let v = x.next(p)?;
+        let s = v / t;
+        if v - s * t < s {
+            return Some(v);
+        }
+        p = (s + 1) * t;
     }
 }
 

@@ -31,6 +31,7 @@ pub fn evaluate(nodes: &[Node], values: &mut [u64]) {
             }
             ASHR => ashr(at(0), at(1), w),
             SIGN_EXTEND => sign_extended(at(0), width(&nodes[field(node, 0)])) & mask(w),
+            UDIV => at(0).checked_div(at(1)).unwrap_or(mask(w)),
             _ => at(0) >> field(node, 1) & mask(w),
         };
         values[id] = value;
@@ -121,6 +122,11 @@ fn pair(nodes: &[Node], node: &Node, pairs: &Pairs) -> (u64, u64) {
         SIGN_EXTEND => {
             let from = width(&nodes[field(node, 0)]);
             (sign_extended(lo_of(0), from) & all, sign_extended(hi_of(0), from) & all)
+        }
+        UDIV if lo_of(0) ^ hi_of(0) | lo_of(1) ^ hi_of(1) != 0 => (0, all),
+        UDIV => {
+            let quotient = lo_of(0).checked_div(lo_of(1)).unwrap_or(all);
+            (quotient, quotient)
         }
         IF => match (lo_of(0), hi_of(0)) {
             (1, _) => (lo_of(1), hi_of(1)),

@@ -124,7 +124,7 @@ impl Draft {
     /// The node just added, if its widths fit.
     fn fits(&self, id: u16) -> Result<u16, String> {
         let operator = self.builder.problem.operator(id as usize);
-        if operator.widths_fit() && operator.width <= 64 {
+        if operator.widths_fit() && operator.width <= operator.kind.widest() {
             return Ok(id);
         }
         let widths: Vec<String> =
@@ -219,6 +219,7 @@ mod tests {
             ("x = var 4\nroot x", "line 2: root 'x' has 4 bits, not 1"),
             ("x = var 1\ny = var 1\nroot x y\nroot x", "line 4: root 'x' stands above already"),
             ("x = var 4\ny = sext 4 x", "line 2: a node of 4 bits is not extended to 4"),
+            ("x = var 17\ny = udiv x x", "line 2: udiv does not take operands of 17, 17 bits"),
             ("x = var 4\ny = sext x", "line 2: expected: sext WIDTH NODE"),
             ("x = var 4\ny = var 5\nz = slt x y", "line 3: slt does not take operands of 4, 5 bits"),
             ("x = nand y y", "line 1: no kind 'nand'"),

@@ -184,7 +184,7 @@ mod tests {
             let place = refusal.place as usize;
             match refusal.number {
                 1..=6 => assert_eq!(marked, []),
-                7..=12 => assert_eq!(marked, [2 + place]),
+                7..=12 | 20 => assert_eq!(marked, [2 + place]),
                 _ => assert_eq!(marked, [2 + 20 + place]),
             }
         }

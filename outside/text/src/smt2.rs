@@ -74,6 +74,7 @@ fn term(problem: &Problem, id: usize, prefix: &str) -> String {
         }
         Kind::SignedBelow => bit(format!("(bvslt {a} {b})")),
         Kind::Ashr => format!("(bvashr {a} {b})"),
+        Kind::Div => format!("(bvudiv {a} {b})"),
         Kind::SignExtend => {
             let front = node.width - problem.nodes[node.fields[0] as usize].width;
             format!("((_ sign_extend {front}) {a})")
@@ -106,13 +107,15 @@ mod tests {
     use super::*;
 
     #[test]
-    fn signed_kinds() {
-        let problem = crate::form::parse("x = var 4\ny = slt x x\nz = ashr x x\nw = sext 7 x\n").unwrap();
+    fn signed_kinds_and_division() {
+        let text = "x = var 4\ny = slt x x\nz = ashr x x\nw = sext 7 x\nq = udiv x z\n";
+        let problem = crate::form::parse(text).unwrap();
         let expected = "\
 (declare-fun n0 () (_ BitVec 4))
 (define-fun n1 () (_ BitVec 1) (ite (bvslt n0 n0) (_ bv1 1) (_ bv0 1)))
 (define-fun n2 () (_ BitVec 4) (bvashr n0 n0))
 (define-fun n3 () (_ BitVec 7) ((_ sign_extend 3) n0))
+(define-fun n4 () (_ BitVec 4) (bvudiv n0 n2))
 ";
         assert_eq!(nodes(&problem, "", Variables::Open), expected);
     }

@@ -25,7 +25,8 @@ The text:
     x   = var 4            4 bits, all free
     y   = var 4 10**       the top two bits fixed
     six = const 4 6        also 0x6, 0b0110
-    p   = mul x six        and not, and, xor, add, shl, lshr, ashr, eq, below, slt, if, concat
+    p   = mul x six        and not, and, xor, add, shl, lshr, ashr, eq, below, slt, if, concat,
+                           udiv (at most 16 bits)
     q   = extract p 1 2    from bit 1, two bits
     s   = sext 8 p         8 bits, the top bit repeated in front
     ok  = eq p y

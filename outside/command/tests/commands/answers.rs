@@ -68,6 +68,13 @@ fn refusals_say_number_place_and_meaning() {
     let why = "walumpeh: twice.tbv: refused 16 at 1: root 1: the root stands earlier in the file\n";
     answers(&at, "run twice.tbv", 1, "refused 16 at 1\n", why);
     answers(&at, "check twice.tbv", 1, "", why);
+    let mut divides = at.read("problem.tbv");
+    divides[9 + 24 * 2..][..2].copy_from_slice(&[17, 17]);
+    at.write("divides.tbv", &divides);
+    let why = "walumpeh: divides.tbv: refused 20 at 2: node 2: a division of more than 16 bits\n";
+    answers(&at, "run divides.tbv", 1, "refused 20 at 2\n", why);
+    assert!(text(&at.run("show divides.tbv").stdout)
+        .contains("\n2 = udiv 0 1                 # <== refused 20: "));
     at.write("four.bin", [0; 32]);
     let why = "walumpeh: four.bin: refused 14 at 0: fewer places than nodes\n";
     answers(&at, "run problem.tbv four.bin", 1, "refused 14 at 0\n", why);
