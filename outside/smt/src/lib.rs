@@ -4,6 +4,7 @@
 //! |-------------|----------------------------------------------------------------------------|
 //! | `solver`    | one run of z3 over a text, and its answers                                 |
 //! | `terms`     | every node's value in a run of budget 0, with z3's value of the same term  |
+//! | `sugar`     | the text form's names for several nodes, with SMT-LIB's operators          |
 //! | `models`    | models that the search finds: z3 must call them solutions                  |
 //! | `unsolved`  | problems that z3 calls unsatisfiable: no run may bring *model*; and closed  |
 //! |             | ones, which z3 must call unsatisfiable                                     |
@@ -12,6 +13,7 @@
 
 pub mod models;
 pub mod solver;
+pub mod sugar;
 pub mod terms;
 pub mod unsolved;
 

@@ -2,7 +2,7 @@
 
 use clap::Parser;
 use model::Kind;
-use smt::{models, terms, unsolved};
+use smt::{models, sugar, terms, unsolved};
 use std::process::ExitCode;
 use std::time::Instant;
 
@@ -46,6 +46,9 @@ fn compare(line: &Line) -> Result<(), String> {
     let counts = terms(line, &Kind::ALL).map_err(difference)?;
     // Those that were added later, by themselves: more of each.
     terms(line, &Kind::ALL[Kind::SignedBelow as usize..]).map_err(difference)?;
+    let start = Instant::now();
+    let names = sugar::compare().map_err(difference)?;
+    println!("names for several nodes at some width that z3 confirmed: {names}, {}", seconds(start));
     let start = Instant::now();
     let confirmed = models::compare(line.models, line.seed).map_err(difference)?;
     println!("models that z3 confirmed: {confirmed} of {} problems, {}", line.models, seconds(start));

@@ -11,8 +11,10 @@
 //! root ok
 //! ```
 //!
-//! Names are any words; nodes have their ids in the order of the lines. What follows `#` is a remark.
+//! Names are any words; nodes have their ids in the order of the lines. What follows `#` is a remark. Beside
+//! the kinds there are names that are expanded into several nodes: see `sugar`.
 
+use crate::sugar::{self, Sugar};
 use generate::Builder;
 use model::problem::{MOST_NODES, MOST_ROOTS};
 use model::{ones, Kind, Pair, Problem};
@@ -69,10 +71,22 @@ impl Draft {
     }
 
     fn node(&mut self, kind: &str, rest: &[&str]) -> Result<u16, String> {
-        if self.builder.len() == MOST_NODES {
+        let id = match (sugar::named(kind), Kind::ALL.into_iter().find(|k| k.name() == kind)) {
+            (Some(sugar), _) => self.sugar(sugar, rest)?,
+            (None, Some(kind)) => self.node_of(kind, rest)?,
+            (None, None) if kind == "zext" => {
+                let (from, width) = self.extended("zext", rest)?;
+                sugar::zext(&mut self.builder, from, width)
+            }
+            (None, None) => return Err(format!("no kind '{kind}'")),
+        };
+        if self.builder.len() > MOST_NODES {
             return Err(format!("more than {MOST_NODES} nodes"));
         }
-        let kind = Kind::ALL.into_iter().find(|k| k.name() == kind).ok_or(format!("no kind '{kind}'"))?;
+        Ok(id)
+    }
+
+    fn node_of(&mut self, kind: Kind, rest: &[&str]) -> Result<u16, String> {
         let id = match (kind, rest) {
             (Kind::Variable, [bits]) => {
                 let width = width(bits)?;
@@ -101,17 +115,10 @@ impl Draft {
                 }
                 self.builder.extract(from, low, width)
             }
-            (Kind::SignExtend, [bits, from]) => {
-                let (width, from) = (width(bits)?, self.id(from)?);
-                if width <= self.builder.width(from) {
-                    return Err(format!(
-                        "a node of {} bits is not extended to {width}",
-                        self.builder.width(from)
-                    ));
-                }
+            (Kind::SignExtend, _) => {
+                let (from, width) = self.extended("sext", rest)?;
                 self.builder.sign_extend(from, width)
             }
-            (Kind::SignExtend, _) => return Err(format!("expected: {}", usage(kind))),
             (_, names) if names.len() == kind.operands() && !names.is_empty() => {
                 let operands = names.iter().map(|name| self.id(name)).collect::<Result<Vec<_>, _>>()?;
                 self.builder.node(kind, &operands)
@@ -121,15 +128,38 @@ impl Draft {
         self.fits(id)
     }
 
+    /// The nodes that a name stands for.
+    fn sugar(&mut self, sugar: &Sugar, names: &[&str]) -> Result<u16, String> {
+        if names.len() != sugar.operands {
+            return Err(format!("expected: {}{}", sugar.name, [" A", " A B"][sugar.operands - 1]));
+        }
+        let operands = names.iter().map(|name| self.id(name)).collect::<Result<Vec<_>, _>>()?;
+        let widths: Vec<u32> = operands.iter().map(|&id| self.builder.width(id)).collect();
+        if !sugar.takes(&widths) {
+            return Err(misfit(sugar.name, &widths));
+        }
+        Ok(sugar.expand(&mut self.builder, &operands))
+    }
+
+    /// The node and the greater width of an extension.
+    fn extended(&self, name: &str, rest: &[&str]) -> Result<(u16, u32), String> {
+        let [bits, from] = rest else {
+            return Err(format!("expected: {name} WIDTH NODE"));
+        };
+        let (width, from) = (width(bits)?, self.id(from)?);
+        match self.builder.width(from) {
+            own if own < width => Ok((from, width)),
+            own => Err(format!("a node of {own} bits is not extended to {width}")),
+        }
+    }
+
     /// The node just added, if its widths fit.
     fn fits(&self, id: u16) -> Result<u16, String> {
         let operator = self.builder.problem.operator(id as usize);
         if operator.widths_fit() && operator.width <= operator.kind.widest() {
             return Ok(id);
         }
-        let widths: Vec<String> =
-            operator.widths[..operator.kind.operands()].iter().map(u32::to_string).collect();
-        Err(format!("{} does not take operands of {} bits", operator.kind.name(), widths.join(", ")))
+        Err(misfit(operator.kind.name(), &operator.widths[..operator.kind.operands()]))
     }
 
     fn id(&self, name: &str) -> Result<u16, String> {
@@ -137,12 +167,16 @@ impl Draft {
     }
 }
 
+fn misfit(name: &str, widths: &[u32]) -> String {
+    let widths: Vec<String> = widths.iter().map(u32::to_string).collect();
+    format!("{name} does not take operands of {} bits", widths.join(", "))
+}
+
 fn usage(kind: Kind) -> String {
     match kind {
         Kind::Variable => "var WIDTH, or var WIDTH DIGITS with 0, 1 or * for each bit".into(),
         Kind::Constant => "const WIDTH VALUE".into(),
         Kind::Extract => "extract NODE LOWEST-BIT WIDTH".into(),
-        Kind::SignExtend => "sext WIDTH NODE".into(),
         _ => format!("{}{}", kind.name(), [" A", " A B", " A B C"][kind.operands() - 1]),
     }
 }
@@ -197,6 +231,16 @@ mod tests {
     }
 
     #[test]
+    fn nodes_of_one_line_count_one_by_one() {
+        let with = |variables: usize| {
+            let lines: String = (0..variables).map(|at| format!("x{at} = var 1\n")).collect();
+            parse(&format!("{lines}y = or x0 x1\n")).map(|problem| problem.nodes.len())
+        };
+        assert_eq!(with(1020), Ok(1024));
+        assert_eq!(with(1021), Err("line 1022: more than 1024 nodes".into()));
+    }
+
+    #[test]
     fn faults_name_their_line() {
         let faults = [
             ("x = var 0", "line 1: '0' is not a width of 1 to 64"),
@@ -221,6 +265,12 @@ mod tests {
             ("x = var 4\ny = sext 4 x", "line 2: a node of 4 bits is not extended to 4"),
             ("x = var 17\ny = udiv x x", "line 2: udiv does not take operands of 17, 17 bits"),
             ("x = var 4\ny = sext x", "line 2: expected: sext WIDTH NODE"),
+            ("x = var 4\ny = zext 3 x", "line 2: a node of 4 bits is not extended to 3"),
+            ("x = var 4\ny = zext 5 x x", "line 2: expected: zext WIDTH NODE"),
+            ("x = var 4\ny = neg x x", "line 2: expected: neg A"),
+            ("x = var 4\ny = or x", "line 2: expected: or A B"),
+            ("x = var 4\ny = var 5\nz = or x y", "line 3: or does not take operands of 4, 5 bits"),
+            ("x = var 17\ny = urem x x", "line 2: urem does not take operands of 17, 17 bits"),
             ("x = var 4\ny = var 5\nz = slt x y", "line 3: slt does not take operands of 4, 5 bits"),
             ("x = nand y y", "line 1: no kind 'nand'"),
             ("x var 4", "line 1: neither 'NAME = KIND ..' nor 'root NODE..'"),

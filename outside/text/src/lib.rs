@@ -3,6 +3,7 @@
 //! | module  | what it does                                                          |
 //! |---------|-----------------------------------------------------------------------|
 //! | `form`  | a problem from text, one line a node                                  |
+//! | `sugar` | the names that stand for several nodes of it                          |
 //! | `shown` | a problem's bytes as that text, with the refused place marked         |
 //! | `smt2`  | a problem as SMT-LIB text                                             |
 //!
@@ -11,6 +12,7 @@
 pub mod form;
 pub mod shown;
 pub mod smt2;
+pub mod sugar;
 
 use model::{Kind, Problem};
 

@@ -31,7 +31,18 @@ The text:
     s   = sext 8 p         8 bits, the top bit repeated in front
     ok  = eq p y
     root ok
-Names are any words. What follows # is a remark.";
+Names are any words. What follows # is a remark.
+Written out as the nodes named, each of which counts; what a node leaves out is the node before it:
+    or A B      not A, not B, and of both, not
+    sub A B     not A, add B, not
+    neg A       const 1, not A, add of both
+    ne A B      eq A B, not
+    ule A B     below B A, not
+    sle A B     slt B A, not
+    ugt A B     below B A
+    sgt A B     slt B A
+    zext W A    const 0 of the bits in front, concat A
+    urem A B    udiv A B, mul B, not A, add of both, not (at most 16 bits)";
 
 pub fn run(args: &Args) -> Result<ExitCode, Fault> {
     let text = read::text(&args.text)?;

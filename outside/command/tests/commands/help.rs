@@ -39,6 +39,23 @@ fn every_command_has_help() {
     }
 }
 
+/// Every name that stands for several nodes, with these nodes.
+#[test]
+fn help_and_readme_have_all_sugar() {
+    let help = At::new("sugar").printed("build --help");
+    let readme = include_str!("../../../README.md");
+    let named = text::sugar::ALL.iter().map(|sugar| (sugar.name, sugar.nodes));
+    for (name, nodes) in named.chain([("zext", text::sugar::ZEXT)]) {
+        let mut lines = help.lines().map(str::trim_start);
+        assert!(
+            lines.any(|line| line.starts_with(&format!("{name} ")) && line.contains(nodes)),
+            "{name}: {help}"
+        );
+        let mut rows = readme.lines();
+        assert!(rows.any(|row| row.starts_with(&format!("| `{name} ")) && row.contains(nodes)), "{name}");
+    }
+}
+
 #[test]
 fn the_version_is_said() {
     let at = At::new("version");
