@@ -1,5 +1,5 @@
-//! The problem check on documents 01 and 02's limits, on one input or more for each refusal 1 to 13 and
-//! 16, and on inputs with two faults. The answers are worked out by hand, not by the model.
+//! The problem check on documents 01 and 02's limits, on one input or more for each refusal 1 to 13, 16
+//! and 20, and on inputs with two faults. The answers are worked out by hand, not by the model.
 
 use walumpeh::check;
 
@@ -67,6 +67,7 @@ fn every_kind() -> Problem {
         inner(14, 1, 1, 2, 0),
         inner(15, 4, 1, 2, 0),
         inner(16, 8, 1, 0, 0),
+        inner(17, 4, 1, 2, 0),
     ];
     Problem::new(nodes, vec![10, 11])
 }
@@ -141,7 +142,7 @@ fn headers() {
 
 #[test]
 fn kinds_widths_operands() {
-    refused("the first number that is no kind", &with(6, inner(17, 4, 1, 2, 0)), 7, 6);
+    refused("the first number that is no kind", &with(6, inner(18, 4, 1, 2, 0)), 7, 6);
     refused("kind 255", &with(14, inner(255, 4, 0, 0, 0)), 7, 14);
     refused("and of width 0", &with(4, inner(3, 0, 1, 2, 0)), 8, 4);
     refused("add of width 65", &with(6, inner(5, 65, 1, 2, 0)), 8, 6);
@@ -151,6 +152,18 @@ fn kinds_widths_operands() {
     refused("extract whose b is no operand", &with(14, inner(13, 3, 1, 15, 0)), 11, 14);
     refused("signed below of 1 and itself", &with(15, inner(14, 1, 1, 15, 0)), 9, 15);
     refused("sign extension of itself", &with(17, inner(16, 8, 17, 0, 0)), 9, 17);
+}
+
+#[test]
+fn divisions() {
+    refused("division of width 16, operands of 4 bits", &with(18, inner(17, 16, 1, 2, 0)), 11, 18);
+    refused("division of width 17", &with(18, inner(17, 17, 1, 2, 0)), 20, 18);
+    refused("division of width 65", &with(18, inner(17, 65, 1, 2, 0)), 8, 18);
+    refused("division whose b has 1 bit", &with(18, inner(17, 4, 1, 0, 0)), 11, 18);
+    refused("division of width 17, and operand above", &with(6, inner(17, 17, 1, 9, 0)), 20, 6);
+    let wide = |width| Problem::new(vec![leaf(0, width, 0, 1), inner(17, width, 0, 0, 0)], vec![]);
+    accepted("division of 16 bits", &wide(16));
+    refused("division of 17 bits", &wide(17), 20, 1);
 }
 
 #[test]
