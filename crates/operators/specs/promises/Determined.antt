@@ -1,15 +1,13 @@
 -- The contract of each public function determines its result: any two results that it allows are equal.
 use mathlib.Core.Path.{_≡_, sym, _∙_}
 use mathlib.Core.Bool.{Bool}
-use mathlib.Core.List.{List}
-use Prim.Native.Nat.{ℕ, _-_, _/_, _%_, _^_}
-use lib.ListN.{getD}
+use Prim.Native.Nat.{ℕ, _+_, _-_, _*_, _/_, _%_, _^_}
 use Rattle.operators.specs.declared.fixed.Pair.{Pair}
 use Rattle.operators.specs.declared.meaning.Op.{Op}
 use Rattle.operators.specs.declared.table.Rule.{Rule}
 use Rattle.operators.specs.declared.table.Shape.{Shape}
 use Rattle.operators.specs.Table.{kindOf, shapeOf, ruleHolds}
-use Rattle.operators.specs.Meaning.{extended, meaning}
+use Rattle.operators.specs.Meaning.{flag, signedLess, signedShift, extended, quotient}
 use Rattle.operators.specs.Fixed.{pairOf}
 
 -- every contract here is an equation
@@ -37,10 +35,29 @@ half-determined w r s = equal
 pub extend-determined : (a k w r s : ℕ) → r ≡ extended k w a → s ≡ extended k w a → r ≡ s
 extend-determined a k w r s = equal
 
-pub value-determined : (op : Op) (held : List ℕ) (a b c r s : ℕ)
-    → r ≡ meaning (kindOf (op .kind)) (op .width) (op .wa) (op .wb) (op .low) (getD held a 0) (getD held b 0) (getD held c 0)
-    → s ≡ meaning (kindOf (op .kind)) (op .width) (op .wa) (op .wb) (op .low) (getD held a 0) (getD held b 0) (getD held c 0) → r ≡ s
-value-determined op held a b c r s = equal
+pub sum-determined : (a b w r s : ℕ) → r ≡ (a + b) % 2 ^ w → s ≡ (a + b) % 2 ^ w → r ≡ s
+sum-determined a b w r s = equal
+
+pub product-determined : (a b w r s : ℕ) → r ≡ (a * b) % 2 ^ w → s ≡ (a * b) % 2 ^ w → r ≡ s
+product-determined a b w r s = equal
+
+pub left-determined : (a b w r s : ℕ) → r ≡ (a * 2 ^ b) % 2 ^ w → s ≡ (a * 2 ^ b) % 2 ^ w → r ≡ s
+left-determined a b w r s = equal
+
+pub right-determined : (a b r s : ℕ) → r ≡ a / 2 ^ b → s ≡ a / 2 ^ b → r ≡ s
+right-determined a b r s = equal
+
+pub join-determined : (a b k r s : ℕ) → r ≡ a * 2 ^ k + b → s ≡ a * 2 ^ k + b → r ≡ s
+join-determined a b k r s = equal
+
+pub below-signed-determined : (a b w r s : ℕ) → r ≡ flag (signedLess w a b) → s ≡ flag (signedLess w a b) → r ≡ s
+below-signed-determined a b w r s = equal
+
+pub right-signed-determined : (a b w r s : ℕ) → r ≡ signedShift w a b → s ≡ signedShift w a b → r ≡ s
+right-signed-determined a b w r s = equal
+
+pub quotient-determined : (a b w r s : ℕ) → r ≡ quotient w a b → s ≡ quotient w a b → r ≡ s
+quotient-determined a b w r s = equal
 
 pub pair-of-determined : (op : Op) (p q r v u : Pair) → v ≡ pairOf (kindOf (op .kind)) (op .width) (op .wa) (op .wb) (op .low) p q r
     → u ≡ pairOf (kindOf (op .kind)) (op .width) (op .wa) (op .wb) (op .low) p q r → v ≡ u
