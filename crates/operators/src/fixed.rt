@@ -154,8 +154,8 @@ fn if_pair(p: Pair, q: Pair, r: Pair) -> Pair
     }
 }
 
-// The sign of a over the other bits of b.
-fn sign_over(a: u64, b: u64, w: u32) -> u64
+// The sign of a over the other bits of b: of a pair's hi and lo its signed least value, of its lo and hi its greatest.
+pub fn sign_over(a: u64, b: u64, w: u32) -> u64
     requires { ⌜ (1 ≤ w) × (w ≤ 64) ⌝ }
     ensures { λ r. ⌜ r ≡ signOver w a b ⌝ }
 {

@@ -7,6 +7,7 @@ mod table;
 
 pub use fixed::Pair;
 pub use fixed::pair_of;
+pub use fixed::sign_over;
 pub use meaning::Op;
 pub use meaning::flip;
 pub use meaning::join;

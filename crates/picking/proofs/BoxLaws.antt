@@ -1,9 +1,9 @@
 -- Laws of boxes and of sets: what the parts of the pick need, and how a set is shown to hold an equation's solutions.
 use mathlib.Core.Path.{_≡_, refl, sym, ap, _∙_, subst}
-use mathlib.Core.Bool.{Bool, true}
+use mathlib.Core.Bool.{Bool, true, false}
 use mathlib.Core.Logic.{_⊎_, inl, inr, ⊎-elim}
 use Prim.Native.Nat.{ℕ, zero, suc, _+_, _-_, _*_, _%_, _^_, _≤_, _<_, zero-le}
-use native.Mathlib.Nat.{le-of-eq, le-of-lt, le-antisymm, lt-of-lt-of-le, mod-lt, mod-eq-of-lt, mul-le-mul, zero-div}
+use native.Mathlib.Nat.{le-refl, le-of-eq, le-antisymm, lt-of-lt-of-le, mod-lt, mod-eq-of-lt, zero-div}
 use native.Mathlib.Omega.{arith}
 use lib.Bits.{bitAnd}
 use lib.Dec.{eqb}
@@ -13,7 +13,9 @@ use borrow.Author.Tests.{eqb-true, eq-eqb}
 use Rattle.words.specs.declared.found.Found.{Found}
 use Rattle.words.specs.laws.Bits.{bit-cut, bit-cut-high, lt-or-ge}
 use Rattle.words.specs.Agree.{Agrees, Within}
-use Rattle.words.specs.laws.Agree.{within-of-bits, agrees-of-within, lo-within, within-hi, within-le, within-mod, within-not, within-trans, within-zero, within-ones}
+use Rattle.words.specs.laws.Agree.{within-of-bits, agrees-of-within, lo-within, within-hi, within-le, within-mod, within-not, within-trans, within-refl, within-zero, within-ones, agrees-only}
+use Rattle.words.specs.inner.Decides.{Decides}
+use Rattle.words.specs.laws.Decides.{decides-yes}
 use Rattle.words.specs.laws.Meet.{both-to, both-back}
 use Rattle.words.specs.inner.Words.{over}
 use Rattle.words.specs.laws.Narrow.{over-mod, narrow-to}
@@ -22,7 +24,7 @@ use Rattle.words.specs.laws.Pick.{picked-same}
 use Rattle.picking.specs.declared.boxes.Box.{Box}
 use Rattle.picking.specs.declared.boxes.Set.{Set}
 use Rattle.picking.specs.declared.boxes.Set.the-variants.{Empty, Only, One}
-use Rattle.picking.specs.inner.Boxes.{In, span, word, lowAre, mirrored, Bounded, shiftedTo, endAt, met, Chosen, Solves, Every}
+use Rattle.picking.specs.inner.Boxes.{In, span, word, lowAre, mirrored, Bounded, shiftedTo, endAt, met, Chosen, Solves, Every, SomeAgreeing}
 
 -- ---- the pick from a set
 
@@ -94,6 +96,21 @@ from-by f h to back s = solves-by h s (λ v l m. to v (m .0)) (λ v l m. (back v
 -- the one value c, where x is t
 pub only-solves : (c x t : ℕ) → Solves 64 (λ v. (v ≡ c) × (x ≡ t)) (Only c (eqb x t))
 only-solves c x t = record { fine = tt; to = λ v h m. (m .0, eqb-true x t (m .1)); back = λ v h m. (m .0, eq-eqb x t (m .1)) }
+
+-- the one value c, where A holds
+pub where-by : {c : ℕ} {A : Type 0} {b : Bool} {r : Set} → Decides A b → Solves 64 (λ v. (v ≡ c) × (b ≡ true)) r → Solves 64 (λ v. (v ≡ c) × A) r
+where-by {c} {A} {b} d s =
+    solves-by (le-refl 64) s (λ v l m. (m .0, decides-yes A b d (m .1))) (λ v l m. (m .0, told b d (m .1)))
+  where
+    told : (b : Bool) → Decides A b → A → b ≡ true
+    told true d a = refl
+    told false d a = absurd (d a)
+
+-- a value is a pair that leaves no other
+pub single-by : {u s : ℕ} {Q : ℕ → ℕ → Type 0} {r : Set} → Solves u (λ v. SomeAgreeing s s (Q v)) r → Solves u (λ v. Q v s) r
+single-by {u} {s} {Q} z =
+    solves-by (le-refl u) z (λ v l m. subst (Q v) (agrees-only (m .fits) refl) (m .gives))
+    (λ v l m. record { by = s; fits = agrees-of-within (within-refl s) (within-refl s); gives = m })
 
 solves-one : {w : ℕ} {Q : ℕ → Type 0} (b : Box) → ((v : ℕ) → v < 2 ^ w → In b v → Q v) → ((v : ℕ) → v < 2 ^ w → Q v → In b v) → Solves w Q (One b)
 solves-one b f g = record { fine = tt; to = f; back = g }

@@ -2,11 +2,10 @@
 use mathlib.Core.Path.{_≡_, refl, sym, ap, _∙_, subst}
 use mathlib.Core.Bool.{Bool, true, false, not, _||_}
 use mathlib.Core.Logic.{_⊎_, inl, inr, ⊎-elim}
-use Prim.Native.Nat.{ℕ, zero, suc, _-_, _/_, _%_, _^_, _≤_, _<_}
+use Prim.Native.Nat.{ℕ, _-_, _/_, _%_, _^_, _≤_, _<_}
 use native.Mathlib.Nat.{le-of-lt}
 use native.Mathlib.Omega.{arith}
 use lib.Dec.{T, eqb}
-use borrow.Author.Tests.{eqb-true, eqb-false}
 use Rattle.words.specs.declared.found.Found.{Found}
 use Rattle.words.specs.declared.found.Found.the-variants.{At, Nothing}
 use Rattle.words.specs.Agree.{Agrees}
@@ -15,14 +14,13 @@ use Rattle.words.specs.inner.Decides.{Decides}
 use Rattle.words.specs.laws.Decides.{decides-same, decides-not, decides-eq}
 use Rattle.words.specs.Pick.{Empty, Picked}
 use Rattle.words.specs.laws.Pick.{pick-member}
-use Rattle.operators.specs.Table.{kindOf}
-use Rattle.operators.specs.Meaning.{extended, meaning}
+use Rattle.operators.specs.Meaning.{extended}
 use Rattle.picking.specs.declared.spot.Three.{Three}
 use Rattle.picking.specs.declared.spot.Spot.{Spot}
-use Rattle.picking.specs.Spot.{at, put, positions, Other, value, Inverse, Essential, Fair, Asked}
-use Rattle.picking.specs.laws.Positions.{at-put-same, at-put-other, value-used}
+use Rattle.picking.specs.Spot.{at, put, positions, value, heldToPairs, Inverse, Reaches, Essential, Fair, Asked}
+use Rattle.picking.specs.laws.Positions.{at-put-same, value-used}
 use Rattle.picking.specs.inner.Asks.{branchOf, Alone, Had}
-use Rattle.picking.proofs.ChoiceLaws.{chosen-at}
+use Rattle.picking.proofs.IfLaws.{condition-to, condition-back, branch-to, branch-back}
 use Rattle.picking.proofs.SpotLaws.{slot-lt, count-at, rule-at, slot-at, two-by-two, other-of}
 
 -- ---- tests
@@ -106,99 +104,23 @@ two-told {S} {t} {i} A two r k = (
     here : i < 2
     here = rw two at (A .position)
 
--- ---- of `if`
+-- ---- of a kind that is held to pairs: what the current value does not reach with them
+held-essential : (S : Spot) (t i : ℕ) → Fair S → heldToPairs (S .kind) ≡ true → (b : Bool) → Decides (Reaches S t i (at (S .current) i)) b → Decides (Essential S t i) (not b)
+unfolding Essential
+held-essential S t i F held b d =
+    decides-same (Reaches S t i (at (S .current) i) → ⊥) (Essential S t i)
+    (λ f o g m. f (record { others = o; admitted = λ j q. record { fits = agrees-lt (at (S .widths) j) (F .slots j (q .below) .under) (g j q); agrees = λ _. g j q }; gives = m }))
+    (λ E m. E (m .others) (λ j q. m .admitted j q .agrees held) (m .gives)) (not b)
+    (decides-not (Reaches S t i (at (S .current) i)) b d)
 
--- values that agree, with one put among them that does
-agree-put : (S : Spot) (x : Three) → ((k : ℕ) → k < 3 → Agrees (at (S .los) k) (at (S .his) k) (at x k)) → (j v : ℕ) → j < 3 → Agrees (at (S .los) j) (at (S .his) j) v
-    → (k : ℕ) → k < 3 → Agrees (at (S .los) k) (at (S .his) k) (at (put x j v) k)
-agree-put S x g j v h m k l = go (eqb k j) refl
-  where
-    go : (b : Bool) → eqb k j ≡ b → Agrees (at (S .los) k) (at (S .his) k) (at (put x j v) k)
-    go true e = rw (eqb-true k j e, at-put-same x j v h) m
-    go false e = rw (at-put-other x j v k h l (eqb-false k j e)) (g k l)
-
--- branch i is taken where the condition is 2 - i
-branch-way : (i : ℕ) → 1 ≤ i → i < 3 → (branchOf (2 - i) ≡ i) × (branchOf (1 - (2 - i)) ≡ 3 - i)
-branch-way zero l h = absurd (omega arith)
-branch-way (suc zero) l h = (refl, refl)
-branch-way (suc (suc zero)) l h = (refl, refl)
-branch-way (suc (suc (suc i))) l h = absurd (omega arith)
-
-way-of : (x i : ℕ) → x < 2 → 1 ≤ i → i < 3 → (x ≡ 2 - i) ⊎ (x ≡ 1 - (2 - i))
-way-of x i h l k = go (eqb x (2 - i)) refl
-  where
-    go : (b : Bool) → eqb x (2 - i) ≡ b → (x ≡ 2 - i) ⊎ (x ≡ 1 - (2 - i))
-    go true e = inl (eqb-true x (2 - i) e)
-    go false e = let f = eqb-false x (2 - i) e in inr (omega arith)
-
+-- of `if`
 module _ (S : Spot) (t : ℕ) (F : Fair S) (key : S .kind ≡ 11) where
-  now : (k : ℕ) → k < 3 → Agrees (at (S .los) k) (at (S .his) k) (at (S .current) k)
-  now k h = slot-at F key k h .agrees
+  pub condition : (j : ℕ) → branchOf (S .current .a) ≡ j → 1 ≤ j → j < 3 → (b : Bool) → Decides (Agrees (at (S .los) j) (at (S .his) j) t) b → Decides (Essential S t 0) (not b)
+  condition j e l h b d =
+      held-essential S t 0 F (ap heldToPairs key) b
+      (decides-same (Agrees (at (S .los) j) (at (S .his) j) t) (Reaches S t 0 (S .current .a)) (condition-to S t F key (S .current .a) j e l h) (condition-back S t F key (S .current .a) j e l h) b d)
 
-  another : (i j : ℕ) → j < 3 → (j ≡ i → ⊥) → Other S i j
-  another i j h f = record { below = rw (count-at F key) h; apart = f }
-
-  below : {i j : ℕ} → Other S i j → j < 3
-  below q = rw (count-at F key) at (q .below)
-
-  -- what is kept at position i and what is given, where branch j is taken
-  given : (o : Three) (i v j : ℕ) → branchOf (put o i v .a) ≡ j → value S (put o i v) ≡ at (put o i v) j
-  given o i v j e = ap (λ (n : ℕ). meaning (kindOf n) (S .width) (S .widths .a) (S .widths .b) (S .low) (put o i v .a) (put o i v .b) (put o i v .c)) key ∙ chosen-at (put o i v) ∙ ap (at (put o i v)) e
-
-  -- the condition keeps its value: the branch that it takes has to be t
-  module _ (j : ℕ) (ej : branchOf (S .current .a) ≡ j) (low : 1 ≤ j) (h : j < 3) where
-    kept : (o : Three) → value S (put o 0 (S .current .a)) ≡ at o j
-    kept o = given o 0 (S .current .a) j ej ∙ at-put-other o 0 (S .current .a) j (omega arith) h (λ e. omega arith)
-
-    pub condition : (b : Bool) → Decides (Agrees (at (S .los) j) (at (S .his) j) t) b → Decides (Essential S t 0) (not b)
-    unfolding Essential
-    condition b d =
-        decides-same (Agrees (at (S .los) j) (at (S .his) j) t → ⊥) (Essential S t 0) (λ f o g m. f (rw (sym (kept o) ∙ m) at (g j (another 0 j h (λ e. omega arith)))))
-        (λ E q. E (put (S .current) j t) (λ k l. agree-put S (S .current) now j t h q k (below l)) (kept (put (S .current) j t) ∙ at-put-same (S .current) j t h)) (not b)
-        (decides-not (Agrees (at (S .los) j) (at (S .his) j) t) b d)
-
-  -- branch i keeps its value: it is taken with t, or the other way with t at the other branch
-  module _ (i : ℕ) (low : 1 ≤ i) (h : i < 3) where
-    abbrev HadAt : Type 0
-    HadAt = Had (S .los .a) (S .his .a) (2 - i) (at (S .current) i) (at (S .los) (3 - i)) (at (S .his) (3 - i)) t
-
-    -- the branch that the condition takes
-    way : (o : Three) (j : ℕ) → branchOf (o .a) ≡ j → value S (put o i (at (S .current) i)) ≡ at (put o i (at (S .current) i)) j
-    way o j e =
-        given o i (at (S .current) i) j (ap branchOf (at-put-other o i (at (S .current) i) 0 h (omega arith) (λ q. omega arith)) ∙ e)
-
-    taken : (o : Three) → o .a ≡ 2 - i → value S (put o i (at (S .current) i)) ≡ at (S .current) i
-    taken o e = way o i (ap branchOf e ∙ branch-way i low h .0) ∙ at-put-same o i (at (S .current) i) h
-
-    passed : (o : Three) → o .a ≡ 1 - (2 - i) → value S (put o i (at (S .current) i)) ≡ at o (3 - i)
-    passed o e =
-        way o (3 - i) (ap branchOf e ∙ branch-way i low h .1) ∙ at-put-other o i (at (S .current) i) (3 - i) h (omega arith) (λ q. omega arith)
-
-    had-by : (o : Three) → ((j : ℕ) → Other S i j → Agrees (at (S .los) j) (at (S .his) j) (at o j)) → value S (put o i (at (S .current) i)) ≡ t → HadAt
-    had-by o g m = go (way-of (o .a) i short low h)
-      where
-        first : Agrees (S .los .a) (S .his .a) (o .a)
-        first = g 0 (another i 0 (omega arith) (λ e. omega arith))
-
-        short : o .a < 2
-        short = rw (rule-at F key .0) at (agrees-lt (S .widths .a) (slot-at F key 0 (omega arith) .under) first)
-
-        go : (o .a ≡ 2 - i) ⊎ (o .a ≡ 1 - (2 - i)) → HadAt
-        go (inl e) = inl (rw e at first, sym (taken o e) ∙ m)
-        go (inr e) = inr (rw e at first, rw (sym (passed o e) ∙ m) at (g (3 - i) (another i (3 - i) (omega arith) (λ q. omega arith))))
-
-    by-had : HadAt → Essential S t i → ⊥
-    unfolding Essential
-    by-had (inl q) E =
-        let o = put (S .current) 0 (2 - i) in
-        E o (λ k l. agree-put S (S .current) now 0 (2 - i) (omega arith) (q .0) k (below l)) (taken o refl ∙ q .1)
-    by-had (inr q) E =
-        let p = put (S .current) 0 (1 - (2 - i)) in
-        let o = put p (3 - i) t in
-        let g = agree-put S (S .current) now 0 (1 - (2 - i)) (omega arith) (q .0) in
-        E o (λ k l. agree-put S p g (3 - i) t (omega arith) (q .1) k (below l))
-        (passed o (at-put-other p (3 - i) t 0 (omega arith) (omega arith) (λ d. omega arith)) ∙ at-put-same p (3 - i) t (omega arith))
-
-    pub branch : (b : Bool) → Decides HadAt b → Decides (Essential S t i) (not b)
-    unfolding Essential
-    branch b d = decides-same (HadAt → ⊥) (Essential S t i) (λ f o g m. f (had-by o g m)) (λ E q. by-had q E) (not b) (decides-not HadAt b d)
+  pub branch : (i : ℕ) → 1 ≤ i → i < 3 → (b : Bool) → Decides (Had (S .los .a) (S .his .a) (2 - i) (at (S .current) i) (at (S .los) (3 - i)) (at (S .his) (3 - i)) t) b → Decides (Essential S t i) (not b)
+  branch i l h b d =
+      held-essential S t i F (ap heldToPairs key) b
+      (decides-same (Had (S .los .a) (S .his .a) (2 - i) (at (S .current) i) (at (S .los) (3 - i)) (at (S .his) (3 - i)) t) (Reaches S t i (at (S .current) i)) (branch-to S t F key i l h (at (S .current) i)) (branch-back S t F key i l h (at (S .current) i)) b d)

@@ -2,23 +2,20 @@
 use mathlib.Core.Path.{_≡_, refl, sym, ap, _∙_}
 use mathlib.Core.Logic.{⊎-elim}
 use Prim.Native.Nat.{ℕ, zero, suc, _+_, _-_, _*_, _/_, _%_, _^_, _≤_, _<_, zero-le}
-use native.Mathlib.Nat.{le-refl, le-of-eq, lt-of-lt-of-le, mod-lt, mod-eq-of-lt}
+use native.Mathlib.Nat.{le-refl, le-of-eq, lt-of-lt-of-le, mod-eq-of-lt}
 use native.Mathlib.Omega.{arith}
-use lib.Pow.{pow-pos, pow-mono, split, high, low, shr-lt, shl-lt, shl-exact, ones-sub-lt}
+use lib.Pow.{pow-mono, split, high, low, shl-lt, shl-exact, ones-sub-lt}
 use Rattle.words.specs.Bits.{bit}
 use Rattle.words.specs.laws.Bits.{bit-lt, bit-ext, bit-cut, bit-cut-high, bit-shr, bit-shl, bit-shl-low, bit-high, bit-not, split-at, lt-or-ge}
 use Rattle.words.specs.Agree.{Agrees}
+use Rattle.words.specs.laws.Agree.{agrees-lt}
 use Rattle.picking.specs.declared.boxes.Set.{Set}
-use Rattle.picking.specs.inner.Boxes.{Solves, Some}
+use Rattle.picking.specs.inner.Boxes.{Solves, SomeAgreeing}
 use Rattle.picking.specs.inner.Asks.{joint, sideOf, partOf, Joined}
 use Rattle.picking.proofs.BitwiseLaws.{cut-not}
 use Rattle.picking.proofs.BoxLaws.{solves-by}
 
 -- ---- concat: each part of t stands at its position
-
-part-fits : (i a b t : ℕ) → t < 2 ^ (a + b) → partOf i b t < 2 ^ sideOf i a b
-part-fits zero a b t h = shr-lt a b h
-part-fits (suc i) a b t h = mod-lt t (pow-pos b)
 
 module _ (i a b : ℕ) (two : i < 2) where
   join-parts : (v s t : ℕ) → v < 2 ^ sideOf i a b → s < 2 ^ sideOf (1 - i) a b → joint i v s .a * 2 ^ b + joint i v s .b ≡ t
@@ -52,12 +49,13 @@ concat-by {i} {a} {b} {t} s x y j hs ex ey m =
     solves-by (side-wide j) m (λ v l e. parts-join i a b (j .position) v s t (e .0 ∙ ex) (sym ey ∙ e .1))
     (λ v l e. let p = join-parts i a b (j .position) v s t l hs e in (p .0 ∙ sym ex, ey ∙ p .1))
 
-pub some-concat-by : {i a b t : ℕ} {r : Set} (x : ℕ) → Joined i a b t → x ≡ partOf i b t
-    → Solves 64 (λ v. v ≡ x) r → Solves (sideOf i a b) (λ v. Some (sideOf (1 - i) a b) (λ s. joint i v s .a * 2 ^ b + joint i v s .b ≡ t)) r
-some-concat-by {i} {a} {b} {t} x j ex m =
-    solves-by (side-wide j) m
-    (λ v l e. record { by = partOf (1 - i) b t; fits = part-fits (1 - i) a b t (j .fits); gives = parts-join i a b (j .position) v (partOf (1 - i) b t) t (e ∙ ex) refl })
-    (λ v l e. join-parts i a b (j .position) v (e .by) t l (e .fits) (e .gives) .0 ∙ sym ex)
+pub some-concat-by : {i a b l h t : ℕ} {r : Set} (x y : ℕ) → Joined i a b t → h < 2 ^ sideOf (1 - i) a b → x ≡ partOf i b t → y ≡ partOf (1 - i) b t
+    → Solves 64 (λ v. (v ≡ x) × Agrees l h y) r → Solves (sideOf i a b) (λ v. SomeAgreeing l h (λ s. joint i v s .a * 2 ^ b + joint i v s .b ≡ t)) r
+some-concat-by {i} {a} {b} {l} {h} {t} x y j short ex ey m =
+    solves-by (side-wide j) m (λ v k e. record { by = y; fits = e .1; gives = parts-join i a b (j .position) v y t (e .0 ∙ ex) (sym ey) })
+    (λ v k e.
+    let p = join-parts i a b (j .position) v (e .by) t k (agrees-lt (sideOf (1 - i) a b) short (e .fits)) (e .gives) in
+    (p .0 ∙ sym ex, rw (ey ∙ p .1) (e .fits)))
 
 pub part-rest : (i k t : ℕ) → (i ≡ 0 → ⊥) → t % 2 ^ k ≡ partOf i k t
 part-rest zero k t f = absurd (f refl)

@@ -6,6 +6,7 @@ pub mod ChoiceLaws
 pub mod ComparisonLaws
 pub mod DivisionLaws
 pub mod EssentialLaws
+pub mod IfLaws
 pub mod JoiningLaws
 pub mod KindLaws
 pub mod ShiftLaws

@@ -2,7 +2,7 @@
 use mathlib.Core.Path.{_≡_, sym, ap, _∙_, subst}
 use mathlib.Core.Logic.{_⊎_, inl, inr, ⊎-elim}
 use Prim.Native.Nat.{ℕ, zero, suc, _+_, _-_, _*_, _/_, _%_, _^_, _≤_, _<_, min, zero-le}
-use native.Mathlib.Nat.{le-refl, le-trans, le-of-eq, lt-of-lt-of-le, lt-of-le-of-lt, not-le-of-lt, mod-lt, div-eq-of-lt, div-lt-iff-lt-mul, zero-div, sub-zero}
+use native.Mathlib.Nat.{le-refl, le-trans, le-of-eq, lt-of-lt-of-le, lt-of-le-of-lt, not-le-of-lt, div-eq-of-lt, div-lt-iff-lt-mul, zero-div, sub-zero}
 use native.Mathlib.Decide.{ℕ-discrete}
 use native.Mathlib.Omega.{arith}
 use lib.Dec.{ltb}
@@ -11,15 +11,19 @@ use Rattle.words.specs.laws.Bits.{lt-or-ge}
 use Rattle.words.specs.inner.Words.{Top}
 use Rattle.words.specs.laws.Zeros.{top-lt}
 use Rattle.operators.specs.Meaning.{flag, sign, signedLess, signedShift, extended}
+use Rattle.operators.specs.Fixed.{pair, signOver}
+use Rattle.operators.specs.inner.Ready.{Ternary}
+use Rattle.operators.specs.promises.Forced.{signed-least, signed-most}
+use Rattle.operators.specs.laws.Sound.{from-least, upto-most}
 use Rattle.operators.specs.laws.Signed.{turned, halves, Low, High, low-of, high-of, low-or-high, signed-order, ashr-low, ashr-high, ashr-not, ashr-keeps, ashr-lt, not-high}
 use Rattle.picking.specs.declared.boxes.Set.{Set}
 use Rattle.picking.specs.declared.boxes.Set.the-variants.{One, Many}
 use Rattle.picking.specs.declared.unions.Row.the-variants.{Right, Mirrored, Ends}
 use Rattle.picking.specs.declared.unions.Union.the-variants.{Several}
-use Rattle.picking.specs.inner.Boxes.{In, mirrored, Bounded, endAt, shiftedTo, Among, Solves, Some}
+use Rattle.picking.specs.inner.Boxes.{In, mirrored, Bounded, endAt, shiftedTo, Among, Solves, Some, SomeAgreeing}
 use Rattle.picking.specs.inner.Asks.{Sized, Word, Folded, joint}
 use Rattle.picking.proofs.BoxLaws.{in-span, solves-by, shifted-bounded, in-mirror, mirror-in, mirror-solves, not-not}
-use Rattle.picking.proofs.ComparisonLaws.{less-yes, less-no, yes-less, no-less}
+use Rattle.picking.proofs.ComparisonLaws.{less-yes, less-no, yes-less, no-less, least-by, most-by}
 use Rattle.picking.proofs.ShiftLaws.{grow, fit-ring, reach, room, span-back, lshr-span, some-lshr}
 
 -- ---- up to a, and from b on
@@ -127,60 +131,20 @@ module _ {w : ℕ} (f g : ℕ → ℕ) (some : 1 ≤ w) (hf : (v : ℕ) → v < 
       solves-by (le-refl w) m (λ v l h. test-is v l ∙ no-less (turned w (f v)) (turned w (g v)) h ∙ sym e)
       (λ v l h. less-no (turned w (f v)) (turned w (g v)) (sym (test-is v l) ∙ h ∙ e))
 
--- ---- for some value of the other
-module _ {w : ℕ} (some : 1 ≤ w) (wide : w ≤ 64) where
-  signed-yes : {t : ℕ} (x y : ℕ) → x < 2 ^ w → y < 2 ^ w → t ≡ 1 → turned w x < turned w y → flag (signedLess w x y) ≡ t
-  signed-yes x y hx hy e h = ap flag (signed-order w x y some hx hy) ∙ yes-less (turned w x) (turned w y) h ∙ sym e
+-- ---- for some value of the other that agrees with l, h
+module _ {w i l h : ℕ} (some : 1 ≤ w) (two : i < 2) (p : Ternary w (pair l h)) where
+  abbrev SomeSigned : ℕ → ℕ → Type 0
+  SomeSigned t v = SomeAgreeing l h (λ s. flag (signedLess w (joint i v s .a) (joint i v s .b)) ≡ t)
 
-  yes-signed : {t : ℕ} (x y : ℕ) → x < 2 ^ w → y < 2 ^ w → t ≡ 1 → flag (signedLess w x y) ≡ t → turned w x < turned w y
-  yes-signed x y hx hy e q = less-yes (turned w x) (turned w y) (sym (ap flag (signed-order w x y some hx hy)) ∙ q ∙ e)
+  pub slt-least-by : {t e : ℕ} {r : Set} → i ≡ t → e ≡ signOver w h l → Solves w (λ v. flag (signedLess w (joint i v e .a) (joint i v e .b)) ≡ t) r → Solves w (λ v. SomeSigned t v) r
+  slt-least-by d e m =
+      least-by w (signedLess w) (turned w) (λ x y. signed-order w x y some) two (p .short) (signed-least w (pair l h) some p .agrees) d
+      (from-least w (pair l h) some (p .short)) (rw e at m)
 
-  -- no value is below itself
-  pub some-slt-no : {t : ℕ} (i v : ℕ) → v < 2 ^ w → t ≡ 0 → Some w (λ s. flag (signedLess w (joint i v s .a) (joint i v s .b)) ≡ t)
-  some-slt-no i v l e = record { by = v; fits = l; gives = same i ∙ sym e }
-    where
-      alone : flag (signedLess w v v) ≡ 0
-      alone = ap flag (signed-order w v v some l l) ∙ no-less (turned w v) (turned w v) (le-refl (turned w v))
-
-      same : (i : ℕ) → flag (signedLess w (joint i v v .a) (joint i v v .b)) ≡ 0
-      same zero = alone
-      same (suc i) = alone
-
-  module _ {h : ℕ} (eh : h ≡ 2 ^ (w - 1)) where
-    two : 2 ^ w ≡ h * 2
-    two = halves w some ∙ ap (λ (n : ℕ). n * 2) (sym eh)
-
-    pos : 0 < h
-    pos = half-pos w eh
-
-    -- below the greatest value
-    pub some-slt-below : {t : ℕ} {r : Set} → t ≡ 1 → Solves 64 (λ v. v ≡ h - 1 → ⊥) r → Solves w (λ v. Some w (λ s. flag (signedLess w v s) ≡ t)) r
-    some-slt-below e m =
-        solves-by wide m
-        (λ v l n. record { by = h - 1; fits = fits; gives = signed-yes v (h - 1) l fits e (⊎-elim (λ (a : Low w v). omega (arith, two, pos, top .is)) (λ (a : High w v). omega (arith, two, pos, top .is)) (low-or-high w some l)) })
-        (λ v l q d. not-le-of-lt (yes-signed v (q .by) l (q .fits) e (q .gives)) (le-trans (le-ones w (mod-lt (q .by + 2 ^ (w - 1)) (pow-pos w))) (le-of-eq (sym (ap (turned w) d ∙ last)))))
-      where
-        fits : h - 1 < 2 ^ w
-        fits = omega (arith, two, pos)
-
-        top : Low w (h - 1)
-        top = low-of w some (omega (arith, pos, eh))
-
-        last : turned w (h - 1) ≡ 2 ^ w - 1
-        last = omega (arith, top .is, two, pos, eh)
-
-    -- above the least
-    pub some-slt-above : {t : ℕ} {r : Set} → t ≡ 1 → Solves 64 (λ v. v ≡ h → ⊥) r → Solves w (λ v. Some w (λ s. flag (signedLess w s v) ≡ t)) r
-    some-slt-above e m =
-        solves-by wide m
-        (λ v l n. record { by = h; fits = fits; gives = signed-yes h v fits l e (⊎-elim (λ (a : Low w v). omega (arith, first, pos, eh)) (λ (a : High w v). omega (arith, first, eh)) (low-or-high w some l)) })
-        (λ v l q d. let k = yes-signed (q .by) v (q .fits) l e (q .gives) in let z : turned w v ≡ 0 = ap (turned w) d ∙ first in omega arith)
-      where
-        fits : h < 2 ^ w
-        fits = omega (arith, two, pos)
-
-        first : turned w h ≡ 0
-        first = omega (arith, high-of w some (le-of-eq (sym eh)) fits .is, eh)
+  pub slt-most-by : {t e : ℕ} {r : Set} → t < 2 → (i ≡ t → ⊥) → e ≡ signOver w l h → Solves w (λ v. flag (signedLess w (joint i v e .a) (joint i v e .b)) ≡ t) r → Solves w (λ v. SomeSigned t v) r
+  slt-most-by b n e m =
+      most-by w (signedLess w) (turned w) (λ x y. signed-order w x y some) two (p .short) (signed-most w (pair l h) some p .agrees) b n
+      (λ s a. upto-most w (pair l h) some (p .short) s a (p .ordered)) (rw e at m)
 
 -- ---- arithmetic shifts
 module _ {w : ℕ} (some : 1 ≤ w) where

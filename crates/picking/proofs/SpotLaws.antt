@@ -1,14 +1,11 @@
 -- Laws of spots: what the arms of a match on the kind know, and what an arm's set comes to at the spot.
-use mathlib.Core.Path.{_≡_, refl, sym, ap, _∙_}
+use mathlib.Core.Path.{_≡_, refl, sym, ap, _∙_, subst}
 use mathlib.Core.Bool.{Bool, true, false}
-use mathlib.Core.Logic.{inl, inr}
 use Prim.Native.Nat.{ℕ, zero, suc, _+_, _-_, _%_, _^_, _≤_, _<_}
-use native.Mathlib.Nat.{le-refl, le-trans, le-of-eq, le-of-lt, lt-of-lt-of-le, mod-lt, mod-eq-of-lt, add-mod-mod, add-mod-right}
+use native.Mathlib.Nat.{le-refl, le-trans, le-of-eq, le-of-lt, mod-lt, mod-eq-of-lt, add-mod-mod, add-mod-right}
 use native.Mathlib.Omega.{arith}
-use lib.Bits.{bitXor, xor-lt, xor-comm}
-use lib.Dec.{eqb}
-use lib.Pow.{pow-pos, pow-mono}
-use types.Run.{OneOf}
+use lib.Dec.{T}
+use lib.Pow.{pow-pos}
 use Rattle.words.specs.declared.found.Found.{Found}
 use Rattle.words.specs.Agree.{Agrees}
 use Rattle.words.specs.laws.Agree.{agrees-lt}
@@ -18,20 +15,18 @@ use Rattle.operators.specs.declared.table.Rule.the-variants.{Equal}
 use Rattle.operators.specs.Table.{kindOf, row, shapeOf, RuleMet}
 use Rattle.operators.specs.laws.Table.{evenly, even-widths}
 use Rattle.operators.specs.laws.Meaning.{even-two}
-use Rattle.operators.specs.Meaning.{meaning, flag, choose}
+use Rattle.operators.specs.Meaning.{meaning}
+use Rattle.operators.specs.Fixed.{pair}
+use Rattle.operators.specs.inner.Ready.{Ternary}
 use Rattle.picking.specs.declared.spot.Three.{Three}
 use Rattle.picking.specs.declared.spot.Spot.{Spot}
 use Rattle.picking.specs.declared.boxes.Set.{Set}
-use Rattle.picking.specs.Spot.{at, put, positions, value, Reaches, Slot, Fair, Asked}
+use Rattle.picking.specs.Spot.{at, put, positions, value, heldToPairs, Admitted, Reaches, Slot, Fair, Asked}
 use Rattle.picking.specs.laws.Positions.{at-put-same, value-used}
-use Rattle.picking.specs.inner.Boxes.{Solves, Chosen, Some}
+use Rattle.picking.specs.inner.Boxes.{Solves, Chosen, Every, SomeOf, Some, SomeAgreeing}
 use Rattle.picking.specs.inner.Asks.{Short, joint, sideOf, Joined, Meets, Wanted}
 use Rattle.picking.proofs.ArithmeticLaws.{sum-comm}
-use Rattle.picking.proofs.BitwiseLaws.{xor-back}
-use Rattle.picking.proofs.BoxLaws.{solves-by}
-use Rattle.picking.proofs.ChoiceLaws.{chosen}
-use Rattle.picking.proofs.ComparisonLaws.{yes-equal, no-equal, equal-comm}
-use Rattle.picking.proofs.KindLaws.{makeup}
+use Rattle.picking.proofs.BoxLaws.{solves-by, solves-all}
 
 -- ---- by position
 pub at-rest : (x : Three) (i : ℕ) → (i ≡ 0 → ⊥) → (i ≡ 1 → ⊥) → x .c ≡ at x i
@@ -83,6 +78,10 @@ module _ {S : Spot} {i t m : ℕ} (A : Asked S i t) (key : S .kind ≡ m) where
   -- the other operand's current value
   other-lt : {y : ℕ} → 1 < shapeOf m .operands → y ≡ at (S .current) (1 - i) → y < 2 ^ at (S .widths) (1 - i)
   other-lt h e = rw e (slot-lt (slot-at (A .fair) key (1 - i) (omega arith)))
+
+  -- the other operand's pair
+  pub other-pair : {l h : ℕ} → 1 < shapeOf m .operands → l ≡ at (S .los) (1 - i) → h ≡ at (S .his) (1 - i) → Ternary (at (S .widths) (1 - i)) (pair l h)
+  other-pair h el eh = let s = slot-at (A .fair) key (1 - i) (omega arith) in record { ordered = rw (el, eh) (s .ordered); short = rw eh (s .under) }
 
   -- both operands have the node's width
   module _ (both : evenly (shapeOf m .rule) ≡ true) where
@@ -172,23 +171,40 @@ module _ {S : Spot} {i t m : ℕ} (A : Asked S i t) (key : S .kind ≡ m) where
         same : (v : ℕ) → value S (put (S .current) i v) ≡ opAt (joint i v y)
         same v = value-joint S (S .current) i v (count-at (A .fair) key ∙ two) place-two ∙ ap (λ (n : ℕ). value S (joint i v n)) (sym e) ∙ op-at (joint i v y)
 
-    -- ---- and with some values of the others
-    to-reach : {k : ℕ} (v : ℕ) → at (S .widths) (1 - i) ≡ k → Some k (λ s. opAt (joint i v s) ≡ t) → Reaches S t i v
-    to-reach v e m = record {
-      others = joint i v (m .by);
-      any = λ j q. let d = other-of i j place-two (rw (count-at (A .fair) key, two) at (q .below)) (q .apart) in rw (d, joint-at i v (m .by) place-two, e) (m .fits);
-      gives = two-of (λ i. value S (put (joint i v (m .by)) i v) ≡ value S (joint i v (m .by))) i place-two refl refl ∙ op-at (joint i v (m .by)) ∙ m .gives;
-    }
+    -- ---- and with some values of the others, where B is what is admitted at the other position
+    module _ {B : ℕ → Type 0} (to : (s : ℕ) → B s → Admitted S (1 - i) s) (back : (s : ℕ) → Admitted S (1 - i) s → B s) where
+      to-reach : (v : ℕ) → SomeOf B (λ s. opAt (joint i v s) ≡ t) → Reaches S t i v
+      to-reach v m = record {
+        others = joint i v (m .by);
+        admitted = λ j q. let d = other-of i j place-two (rw (count-at (A .fair) key, two) at (q .below)) (q .apart) in rw (d, joint-at i v (m .by) place-two) (to (m .by) (m .fits));
+        gives = two-of (λ i. value S (put (joint i v (m .by)) i v) ≡ value S (joint i v (m .by))) i place-two refl refl ∙ op-at (joint i v (m .by)) ∙ m .gives;
+      }
 
-    of-reach : {k : ℕ} (v : ℕ) → at (S .widths) (1 - i) ≡ k → Reaches S t i v → Some k (λ s. opAt (joint i v s) ≡ t)
-    of-reach v e m = record {
-      by = at (m .others) (1 - i);
-      fits = rw e at (m .any (1 - i) (record { below = rw (count-at (A .fair) key, two) (omega arith); apart = λ q. omega (arith, place-two) }));
-      gives = sym (op-at (joint i v (at (m .others) (1 - i)))) ∙ sym (value-joint S (m .others) i v (count-at (A .fair) key ∙ two) place-two) ∙ m .gives;
-    }
+      of-reach : (v : ℕ) → Reaches S t i v → SomeOf B (λ s. opAt (joint i v s) ≡ t)
+      of-reach v m = record {
+        by = at (m .others) (1 - i);
+        fits = back (at (m .others) (1 - i)) (m .admitted (1 - i) (record { below = rw (count-at (A .fair) key, two) (omega arith); apart = λ q. omega (arith, place-two) }));
+        gives = sym (op-at (joint i v (at (m .others) (1 - i)))) ∙ sym (value-joint S (m .others) i v (count-at (A .fair) key ∙ two) place-two) ∙ m .gives;
+      }
 
-    reach-two : {u k : ℕ} {r : Set} → at (S .widths) i ≤ u → at (S .widths) (1 - i) ≡ k → Solves u (λ v. Some k (λ s. opAt (joint i v s) ≡ t)) r → Solves (at (S .widths) i) (λ v. Reaches S t i v) r
-    reach-two h e s = solves-by h s (λ v l m. to-reach v e m) (λ v l m. of-reach v e m)
+      reach-two : {u : ℕ} {r : Set} → at (S .widths) i ≤ u → Solves u (λ v. SomeOf B (λ s. opAt (joint i v s) ≡ t)) r → Solves (at (S .widths) i) (λ v. Reaches S t i v) r
+      reach-two h s = solves-by h s (λ v l m. to-reach v m) (λ v l m. of-reach v m)
+
+    other-slot : Slot (at (S .widths) (1 - i)) (at (S .los) (1 - i)) (at (S .his) (1 - i)) (at (S .current) (1 - i))
+    other-slot = slot-at (A .fair) key (1 - i) (rw two (omega arith))
+
+    -- a kind that is held to pairs: what agrees
+    pub held-reach : {u l h : ℕ} {r : Set} → heldToPairs m ≡ true → l ≡ at (S .los) (1 - i) → h ≡ at (S .his) (1 - i) → at (S .widths) i ≤ u
+        → Solves u (λ v. SomeAgreeing l h (λ s. opAt (joint i v s) ≡ t)) r → Solves (at (S .widths) i) (λ v. Reaches S t i v) r
+    held-reach held el eh =
+        reach-two
+        (λ s g. let a : Agrees (at (S .los) (1 - i)) (at (S .his) (1 - i)) s = rw (el, eh) at g in record { fits = agrees-lt (at (S .widths) (1 - i)) (other-slot .under) a; agrees = λ _. a })
+        (λ s g. rw (el, eh) (g .agrees (ap heldToPairs key ∙ held)))
+
+    -- any other kind: what has the width
+    free-reach : {u k : ℕ} {r : Set} → heldToPairs m ≡ false → at (S .widths) (1 - i) ≡ k → at (S .widths) i ≤ u
+        → Solves u (λ v. Some k (λ s. opAt (joint i v s) ≡ t)) r → Solves (at (S .widths) i) (λ v. Reaches S t i v) r
+    free-reach free e = reach-two (λ s l. record { fits = rw e l; agrees = λ q. absurd (subst T (sym q ∙ ap heldToPairs key ∙ free) tt) }) (λ s g. rw e at (g .fits))
 
 -- the same by width: sets of 64 bits, operands of the node's width, the two sides of a concat
 module _ {S : Spot} {i t m : ℕ} (A : Asked S i t) (key : S .kind ≡ m) where
@@ -200,18 +216,26 @@ module _ {S : Spot} {i t m : ℕ} (A : Asked S i t) (key : S .kind ≡ m) where
     pub both-arm : {y : ℕ} {r : Set} → y ≡ at (S .current) (1 - i) → Solves (S .width) (λ v. opAt A key (joint i v y) ≡ t) r → Solves (at (S .widths) i) (λ v. value S (put (S .current) i v) ≡ t) r
     both-arm = arm-two A key (both-two A key both) (both-wide A key both)
 
-    pub both-reach : {r : Set} → Solves (S .width) (λ v. Some (S .width) (λ s. opAt A key (joint i v s) ≡ t)) r → Solves (at (S .widths) i) (λ v. Reaches S t i v) r
-    both-reach = reach-two A key (both-two A key both) (both-wide A key both) (both-other A key both)
+    pub both-reach : {r : Set} → heldToPairs m ≡ false → Solves (S .width) (λ v. Some (S .width) (λ s. opAt A key (joint i v s) ≡ t)) r → Solves (at (S .widths) i) (λ v. Reaches S t i v) r
+    both-reach free = free-reach A key (both-two A key both) free (both-other A key both) (both-wide A key both)
 
   pub equal-lt : {y : ℕ} → shapeOf m ≡ row 2 2 Equal → y ≡ at (S .current) (1 - i) → y < 2 ^ S .widths .a
   equal-lt equal e = rw (equal-width A key equal (1 - i) (omega arith)) at (other-lt A key (rw equal (omega arith)) e)
+
+  pub equal-pair : {l h : ℕ} → shapeOf m ≡ row 2 2 Equal → l ≡ at (S .los) (1 - i) → h ≡ at (S .his) (1 - i) → Ternary (S .widths .a) (pair l h)
+  equal-pair equal el eh = rw (equal-width A key equal (1 - i) (omega arith)) at (other-pair A key (rw equal (omega arith)) el eh)
 
   pub equal-arm : {y : ℕ} {r : Set} → shapeOf m ≡ row 2 2 Equal → y ≡ at (S .current) (1 - i) → Solves (S .widths .a) (λ v. opAt A key (joint i v y) ≡ t) r
       → Solves (at (S .widths) i) (λ v. value S (put (S .current) i v) ≡ t) r
   equal-arm equal = arm-two A key (rw equal) (le-of-eq (equal-width A key equal i (rw equal at (place A key))))
 
-  pub equal-reach : {r : Set} → shapeOf m ≡ row 2 2 Equal → Solves (S .widths .a) (λ v. Some (S .widths .a) (λ s. opAt A key (joint i v s) ≡ t)) r → Solves (at (S .widths) i) (λ v. Reaches S t i v) r
-  equal-reach equal = reach-two A key (rw equal) (le-of-eq (equal-width A key equal i (rw equal at (place A key)))) (equal-width A key equal (1 - i) (omega arith))
+  pub wide-reach : {l h : ℕ} {r : Set} → shapeOf m .operands ≡ 2 → heldToPairs m ≡ true → l ≡ at (S .los) (1 - i) → h ≡ at (S .his) (1 - i) → Solves 64 (λ v. SomeAgreeing l h (λ s. opAt A key (joint i v s) ≡ t)) r
+      → Solves (at (S .widths) i) (λ v. Reaches S t i v) r
+  wide-reach two held el eh = held-reach A key two held el eh (wide-at A)
+
+  pub equal-reach : {l h : ℕ} {r : Set} → shapeOf m ≡ row 2 2 Equal → heldToPairs m ≡ true → l ≡ at (S .los) (1 - i) → h ≡ at (S .his) (1 - i) → Solves (S .widths .a) (λ v. SomeAgreeing l h (λ s. opAt A key (joint i v s) ≡ t)) r
+      → Solves (at (S .widths) i) (λ v. Reaches S t i v) r
+  equal-reach equal held el eh = held-reach A key (rw equal) held el eh (le-of-eq (equal-width A key equal i (rw equal at (place A key))))
 
   module _ (two : shapeOf m .operands ≡ 2) where
     here : sideOf i (S .widths .a) (S .widths .b) ≡ at (S .widths) i
@@ -223,13 +247,16 @@ module _ {S : Spot} {i t m : ℕ} (A : Asked S i t) (key : S .kind ≡ m) where
     pub side-lt : {y : ℕ} → y ≡ at (S .current) (1 - i) → y < 2 ^ sideOf (1 - i) (S .widths .a) (S .widths .b)
     side-lt e = rw there (other-lt A key (rw two (omega arith)) e)
 
+    pub side-short : {l h : ℕ} → l ≡ at (S .los) (1 - i) → h ≡ at (S .his) (1 - i) → h < 2 ^ sideOf (1 - i) (S .widths .a) (S .widths .b)
+    side-short el eh = rw there (other-pair A key (rw two (omega arith)) el eh .short)
+
     pub side-arm : {y : ℕ} {r : Set} → y ≡ at (S .current) (1 - i) → Solves (sideOf i (S .widths .a) (S .widths .b)) (λ v. opAt A key (joint i v y) ≡ t) r
         → Solves (at (S .widths) i) (λ v. value S (put (S .current) i v) ≡ t) r
     side-arm = arm-two A key two (le-of-eq (sym here))
 
-    pub side-reach : {r : Set} → Solves (sideOf i (S .widths .a) (S .widths .b)) (λ v. Some (sideOf (1 - i) (S .widths .a) (S .widths .b)) (λ s. opAt A key (joint i v s) ≡ t)) r
+    pub side-reach : {l h : ℕ} {r : Set} → heldToPairs m ≡ true → l ≡ at (S .los) (1 - i) → h ≡ at (S .his) (1 - i) → Solves (sideOf i (S .widths .a) (S .widths .b)) (λ v. SomeAgreeing l h (λ s. opAt A key (joint i v s) ≡ t)) r
         → Solves (at (S .widths) i) (λ v. Reaches S t i v) r
-    side-reach = reach-two A key two (le-of-eq (sym here)) (sym there)
+    side-reach held el eh = held-reach A key two held el eh (le-of-eq (sym here))
 
 -- an operator that does not mind the order
 alike : {f : ℕ → ℕ → ℕ} → ((x y : ℕ) → f x y ≡ f y x) → (i v s : ℕ) → f (joint i v s .a) (joint i v s .b) ≡ f v s
@@ -240,7 +267,7 @@ module _ {f : ℕ → ℕ → ℕ} (comm : (x y : ℕ) → f x y ≡ f y x) (i :
   pub alike-by : {s : ℕ} → Solves u (λ v. f v s ≡ t) r → Solves u (λ v. f (joint i v s .a) (joint i v s .b) ≡ t) r
   alike-by {s} m = solves-by (le-refl u) m (λ v l e. alike comm i v s ∙ e) (λ v l e. sym (alike comm i v s) ∙ e)
 
-  pub alike-some : {k : ℕ} → Solves u (λ v. Some k (λ s. f v s ≡ t)) r → Solves u (λ v. Some k (λ s. f (joint i v s .a) (joint i v s .b) ≡ t)) r
+  pub alike-some : {B : ℕ → Type 0} → Solves u (λ v. SomeOf B (λ s. f v s ≡ t)) r → Solves u (λ v. SomeOf B (λ s. f (joint i v s .a) (joint i v s .b) ≡ t)) r
   alike-some m =
       solves-by (le-refl u) m (λ v l e. record { by = e .by; fits = e .fits; gives = alike comm i v (e .by) ∙ e .gives })
       (λ v l e. record { by = e .by; fits = e .fits; gives = sym (alike comm i v (e .by)) ∙ e .gives })
@@ -249,7 +276,7 @@ module _ {f : ℕ → ℕ → ℕ} (comm : (x y : ℕ) → f x y ≡ f y x) (i :
 pub reach-one : {S : Spot} {i t : ℕ} {r : Set} → Asked S i t → positions S ≡ 1 → Solves (at (S .widths) i) (λ v. value S (put (S .current) i v) ≡ t) r → Solves (at (S .widths) i) (λ v. Reaches S t i v) r
 reach-one {S} {i} {t} A one s =
     solves-by (le-refl _) s
-    (λ v l e. record { others = S .current; any = λ j q. absurd (q .apart (omega (arith, q .below, A .position, one))); gives = e })
+    (λ v l e. record { others = S .current; admitted = λ j q. absurd (q .apart (omega (arith, q .below, A .position, one))); gives = e })
     (λ v l m. value-used S (put (S .current) i v) (put (m .others) i v) (λ j h. same v (m .others) j (omega (arith, h, A .position, one))) ∙ m .gives)
   where
     few : i < 3
@@ -258,73 +285,19 @@ reach-one {S} {i} {t} A one s =
     same : (v : ℕ) (o : Three) (j : ℕ) → j ≡ i → at (put (S .current) i v) j ≡ at (put o i v) j
     same v o j e = rw e (at-put-same (S .current) i v few ∙ sym (at-put-same o i v few))
 
--- ---- of xor, add, eq and if the others make up for any value
-module _ {S : Spot} {i t : ℕ} (A : Asked S i t) (v : ℕ) (hv : v < 2 ^ at (S .widths) i) where
-  reach-alike : {m k : ℕ} {f : ℕ → ℕ → ℕ} (key : S .kind ≡ m) → shapeOf m .operands ≡ 2 → at (S .widths) (1 - i) ≡ k → ((x y : ℕ) → f x y ≡ f y x)
-      → ((x y z : ℕ) → meaning (kindOf m) (S .width) (S .widths .a) (S .widths .b) (S .low) x y z ≡ f x y) → Some k (λ s. f v s ≡ t) → Reaches S t i v
-  reach-alike key two e comm is m =
-      to-reach A key two v e (record { by = m .by; fits = m .fits; gives = is (joint i v (m .by) .a) (joint i v (m .by) .b) (joint i v (m .by) .c) ∙ alike comm i v (m .by) ∙ m .gives })
-
-  reach-xor : S .kind ≡ 4 → Reaches S t i v
-  reach-xor key =
-      reach-alike key refl (both-other A key refl) xor-comm (λ x y z. refl)
-      (record { by = bitXor t v; fits = xor-lt (S .width) t v (A .target) (lt-of-lt-of-le hv (pow-mono (both-wide A key refl))); gives = xor-comm v (bitXor t v) ∙ xor-back t v })
-
-  reach-add : S .kind ≡ 5 → Reaches S t i v
-  reach-add key =
-      let w = S .width in
-      let l : v < 2 ^ w = lt-of-lt-of-le hv (pow-mono (both-wide A key refl)) in
-      let e : v + (t + (2 ^ w - v)) ≡ t + 2 ^ w = omega arith in
-      reach-alike key refl (both-other A key refl) (sum-comm w) (λ x y z. refl)
-      (record {
-        by = (t + (2 ^ w - v)) % 2 ^ w;
-        fits = mod-lt (t + (2 ^ w - v)) (pow-pos w);
-        gives = add-mod-mod v (t + (2 ^ w - v)) (2 ^ w) ∙ ap (λ (n : ℕ). n % 2 ^ w) e ∙ add-mod-right t (2 ^ w) ∙ mod-eq-of-lt (A .target);
-      })
-
-  reach-eq : S .kind ≡ 9 → Reaches S t i v
-  reach-eq key = reach-alike key refl same equal-comm (λ x y z. refl) (by t (flag-target A key refl) refl v hv)
-    where
-      same : at (S .widths) (1 - i) ≡ at (S .widths) i
-      same = equal-width A key refl (1 - i) (omega arith) ∙ sym (equal-width A key refl i (place A key))
-
-      two : 1 < 2 ^ at (S .widths) i
-      two = pow-mono (A .fair .slots i (A .position) .some)
-
-      by : (q : ℕ) → q < 2 → t ≡ q → (u : ℕ) → u < 2 ^ at (S .widths) i → Some (at (S .widths) i) (λ s. flag (eqb u s) ≡ t)
-      by zero l e zero h = record { by = 1; fits = two; gives = sym e }
-      by zero l e (suc u) h = record { by = 0; fits = pow-pos (at (S .widths) i); gives = no-equal (suc u) 0 (λ q. omega arith) ∙ sym e }
-      by (suc zero) l e u h = record { by = u; fits = h; gives = yes-equal u u refl ∙ sym e }
-      by (suc (suc q)) l e u h = absurd (omega arith)
-
-  -- t at the branches, and a condition that does not take branch i
-  reach-if : S .kind ≡ 11 → Reaches S t i v
-  reach-if key = record {
-    others = record { a = i - 1; b = t; c = t };
-    any = λ j q. fits j (rw (count-at (A .fair) key) at (q .below));
-    gives = op-at A key (put (record { a = i - 1; b = t; c = t }) i v) ∙ gives i (place A key);
-  }
-    where
-      fits : (j : ℕ) → j < 3 → at (record { a = i - 1; b = t; c = t }) j < 2 ^ at (S .widths) j
-      fits zero h = rw (rule-at (A .fair) key .0) (omega (arith, place A key))
-      fits (suc zero) h = rw (rule-at (A .fair) key .1) (A .target)
-      fits (suc (suc j)) h = rw (rule-at (A .fair) key .2) (A .target)
-
-      either : (x : ℕ) → choose x t t ≡ t
-      either zero = refl
-      either (suc x) = refl
-
-      gives : (i : ℕ) → i < 3 → chosen (put (record { a = i - 1; b = t; c = t }) i v) ≡ t
-      gives zero h = either v
-      gives (suc zero) h = refl
-      gives (suc (suc zero)) h = refl
-      gives (suc (suc (suc i))) h = absurd (omega arith)
-
-  pub reach-any : OneOf makeup (S .kind) → Reaches S t i v
-  reach-any (inl e) = reach-xor e
-  reach-any (inr (inl e)) = reach-add e
-  reach-any (inr (inr (inl e))) = reach-eq e
-  reach-any (inr (inr (inr e))) = reach-if e
+-- ---- of add the other makes up for any value
+pub reach-add : {S : Spot} {i t : ℕ} {r : Set} (A : Asked S i t) (key : S .kind ≡ 5) → Solves 64 Every r → Solves (at (S .widths) i) (λ v. Reaches S t i v) r
+reach-add {S} {i} {t} A key s = both-reach A key refl refl (alike-some (sum-comm (S .width)) i (solves-all (A .fair .wide) s other))
+  where
+    other : (v : ℕ) → v < 2 ^ S .width → Some (S .width) (λ s. (v + s) % 2 ^ S .width ≡ t)
+    other v l =
+        let w = S .width in
+        let e : v + (t + (2 ^ w - v)) ≡ t + 2 ^ w = omega arith in
+        record {
+          by = (t + (2 ^ w - v)) % 2 ^ w;
+          fits = mod-lt (t + (2 ^ w - v)) (pow-pos w);
+          gives = add-mod-mod v (t + (2 ^ w - v)) (2 ^ w) ∙ ap (λ (n : ℕ). n % 2 ^ w) e ∙ add-mod-right t (2 ^ w) ∙ mod-eq-of-lt (A .target);
+        }
 
 -- ---- the pick from what a set holds and a pair allows
 picked-at : {S : Spot} {i t : ℕ} {set : Set} {P Q : ℕ → Type 0} (p : ℕ) (r : Found) → Asked S i t → Solves (at (S .widths) i) P set

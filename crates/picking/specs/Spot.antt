@@ -1,8 +1,11 @@
 -- Document 01, "Picking": a node taken out of a problem, and the sets of values of its positions. Each set is one
 -- definition over every kind; positions are independent even where one node fills two of them.
 use mathlib.Core.Path.{_≡_}
+use mathlib.Core.Bool.{Bool, true}
+use mathlib.Core.List.{[], _∷_}
 use mathlib.Core.Logic.{_⊎_}
 use Prim.Native.Nat.{ℕ, zero, suc, _^_, _≤_, _<_}
+use mir.Val.{hasKey}
 use Rattle.words.specs.Agree.{Agrees, Within}
 use Rattle.operators.specs.Table.{kindOf, kindCount, shapeOf, RuleMet}
 use Rattle.operators.specs.Meaning.{meaning}
@@ -39,13 +42,23 @@ pub record Inverse (S : Spot) (t i v : ℕ) : Type 0 where
   pub agrees : Agrees (at (S .los) i) (at (S .his) i) v
   pub gives : value S (put (S .current) i v) ≡ t
 
--- v at position i gives t with some values of the other positions, any at all of their widths
+-- 02, R-4: "For and, xor, eq, both below kinds, if and concat, the consistent set now admits only other values that agree with
+-- their own pairs. The remaining kinds stay." Whether a kind, by its number, is one of these
+abbrev pub heldToPairs : ℕ → Bool
+heldToPairs = hasKey (3 ∷ 4 ∷ 9 ∷ 10 ∷ 14 ∷ 11 ∷ 12 ∷ [])
+
+-- the consistent set admits v at another position j: it has the width, and agrees with the pair where the kind asks for that
+pub record Admitted (S : Spot) (j v : ℕ) : Type 0 where
+  pub fits : v < 2 ^ at (S .widths) j
+  pub agrees : heldToPairs (S .kind) ≡ true → Agrees (at (S .los) j) (at (S .his) j) v
+
+-- v at position i gives t with some values of the other positions, any that are admitted
 pub record Reaches (S : Spot) (t i v : ℕ) : Type 0 where
   pub others : Three
-  pub any : (j : ℕ) → Other S i j → at others j < 2 ^ at (S .widths) j
+  pub admitted : (j : ℕ) → Other S i j → Admitted S j (at others j)
   pub gives : value S (put others i v) ≡ t
 
--- consistent set: "values that agree with the operand's pair and give t with some values of the other positions, any at all"
+-- consistent set: "values that agree with the operand's pair and give t with some values of the other positions, any at all", as R-4 has it
 pub record Consistent (S : Spot) (t i v : ℕ) : Type 0 where
   pub agrees : Agrees (at (S .los) i) (at (S .his) i) v
   pub reaches : Reaches S t i v

@@ -6,6 +6,7 @@ use crate::boxes::ternary;
 use crate::unions::Row;
 use crate::unions::Union;
 ghost use mathlib.Core.Path.{_≡_};
+ghost use mathlib.Core.Bool.{true};
 ghost use mathlib.Core.Logic.{_⊎_};
 ghost use Prim.Native.Nat.{_%_, _^_, _≤_, _<_};
 ghost use Rattle.words.specs.Agree.{Agrees};
@@ -47,6 +48,13 @@ pub(crate) fn only_if(c: u64, x: u64, t: u64) -> Set
     ensures { λ r. ⌜ Solves 64 (λ v. (v ≡ c) × (x ≡ t)) r ⌝ }
 {
     Set::Only(c, x == t)
+}
+
+// The one value c where it is there, else none.
+pub(crate) fn only_where(c: u64, there: bool) -> Set
+    ensures { λ r. ⌜ Solves 64 (λ v. (v ≡ c) × (there ≡ true)) r ⌝ }
+{
+    Set::Only(c, there)
 }
 
 // The values below s.

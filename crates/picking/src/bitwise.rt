@@ -1,10 +1,12 @@
-// Not, and, xor: the values of an operand that give t, and those that do so with some value of the other.
+// Not, and, xor: the values of an operand that give t, and those that do so with some value of the other
+// that agrees with its pair l, h.
 use crate::basic;
 use crate::boxes::Set;
 ghost use mathlib.Core.Path.{_≡_};
 ghost use Prim.Native.Nat.{_-_, _^_};
 ghost use lib.Bits.{bitAnd, bitXor};
-ghost use Rattle.picking.specs.inner.Boxes.{Solves, Some};
+ghost use Rattle.words.specs.Agree.{Within};
+ghost use Rattle.picking.specs.inner.Boxes.{Solves, SomeAgreeing};
 ghost use Rattle.picking.specs.inner.Asks.{Sized};
 
 pub(crate) fn inverse_not(w: u32, t: u64) -> Set
@@ -14,24 +16,37 @@ pub(crate) fn inverse_not(w: u32, t: u64) -> Set
     basic::only(words::cut(!t, w))
 }
 
+// A value is a pair that leaves no other.
 pub(crate) fn inverse_and(s: u64, t: u64) -> Set
     ensures { λ r. ⌜ Solves 64 (λ v. bitAnd v s ≡ t) r ⌝ }
 {
-    if t & s != t {
-        return Set::Empty;
-    }
-    basic::agreeing(t, t | !s)
+    consistent_and(s, s, t)
 }
 
-pub(crate) fn consistent_and(w: u32, t: u64) -> Set
-    requires { ⌜ Sized w t ⌝ }
-    ensures { λ r. ⌜ Solves w (λ v. Some w (λ s. bitAnd v s ≡ t)) r ⌝ }
+// Every bit of t has to be one that the other can have; then v has the bits of t and, where the other need not have a bit, any
+// others.
+pub(crate) fn consistent_and(l: u64, h: u64, t: u64) -> Set
+    requires { ⌜ Within l h ⌝ }
+    ensures { λ r. ⌜ Solves 64 (λ v. SomeAgreeing l h (λ s. bitAnd v s ≡ t)) r ⌝ }
 {
-    basic::agreeing(t, u64::MAX)
+    if t & h != t {
+        return Set::Empty;
+    }
+    basic::agreeing(t, t | !l)
 }
 
 pub(crate) fn inverse_xor(s: u64, t: u64) -> Set
     ensures { λ r. ⌜ Solves 64 (λ v. bitXor v s ≡ t) r ⌝ }
 {
     basic::only(t ^ s)
+}
+
+// The xor of t with the other's pair: free where the pair is.
+pub(crate) fn consistent_xor(l: u64, h: u64, t: u64) -> Set
+    requires { ⌜ Within l h ⌝ }
+    ensures { λ r. ⌜ Solves 64 (λ v. SomeAgreeing l h (λ s. bitXor v s ≡ t)) r ⌝ }
+{
+    let a = t ^ l;
+    let b = t ^ h;
+    basic::agreeing(a & b, a | b)
 }

@@ -1,11 +1,13 @@
-// Eq and below: the values of an operand that give t, and those that do so with some value of the other.
+// Eq and below: the values of an operand that give t, and those that do so with some value of the other that
+// agrees with its pair l, h.
 use crate::basic;
 use crate::boxes::Set;
 ghost use mathlib.Core.Path.{_≡_};
-ghost use Prim.Native.Nat.{_≤_, _<_};
+ghost use Prim.Native.Nat.{_<_};
 ghost use lib.Dec.{eqb, ltb};
 ghost use Rattle.operators.specs.Meaning.{flag};
-ghost use Rattle.picking.specs.inner.Boxes.{Solves, Some};
+ghost use Rattle.words.specs.Agree.{Within};
+ghost use Rattle.picking.specs.inner.Boxes.{Solves, SomeAgreeing};
 ghost use Rattle.picking.specs.inner.Asks.{joint};
 
 pub(crate) fn inverse_eq(s: u64, t: u64) -> Set
@@ -34,16 +36,27 @@ pub(crate) fn inverse_below(i: u32, s: u64, t: u64) -> Set
     basic::range(0, s)
 }
 
-// Below some value are all but the greatest, and above some value all but 0.
-pub(crate) fn consistent_below(i: u32, w: u32, t: u64) -> Set
-    requires { ⌜ (i < 2) × (w ≤ 64) × (t < 2) ⌝ }
-    ensures { λ r. ⌜ Solves w (λ v. Some w (λ s. flag (ltb (joint i v s .a) (joint i v s .b)) ≡ t)) r ⌝ }
+// For target 1 what the other may be, for target 0 all but the one value that it has to be, if there is one.
+pub(crate) fn consistent_eq(l: u64, h: u64, t: u64) -> Set
+    requires { ⌜ (t < 2) × Within l h ⌝ }
+    ensures { λ r. ⌜ Solves 64 (λ v. SomeAgreeing l h (λ s. flag (eqb v s) ≡ t)) r ⌝ }
 {
-    if t == 0 {
-        return basic::all();
+    if t == 1 {
+        return basic::agreeing(l, h);
     }
-    if i == 0 {
-        return basic::below(words::cut(u64::MAX, w));
+    if l == h {
+        return basic::apart(l);
     }
-    basic::above(0)
+    basic::all()
+}
+
+// The other's greatest value serves best where v has to be below it or at most it, else its least.
+pub(crate) fn consistent_below(i: u32, l: u64, h: u64, t: u64) -> Set
+    requires { ⌜ (i < 2) × (t < 2) × Within l h ⌝ }
+    ensures { λ r. ⌜ Solves 64 (λ v. SomeAgreeing l h (λ s. flag (ltb (joint i v s .a) (joint i v s .b)) ≡ t)) r ⌝ }
+{
+    if i as u64 == t {
+        return inverse_below(i, l, t);
+    }
+    inverse_below(i, h, t)
 }

@@ -3,7 +3,7 @@ use crate::basic;
 use crate::boxes::Set;
 ghost use mathlib.Core.Path.{_≡_};
 ghost use Prim.Native.Nat.{_+_, _-_, _*_, _/_, _%_, _^_, _≤_, _<_};
-ghost use Rattle.picking.specs.inner.Boxes.{Solves, Some};
+ghost use Rattle.picking.specs.inner.Boxes.{Solves, SomeAgreeing};
 ghost use Rattle.picking.specs.inner.Asks.{joint, partOf, sideOf, Joined};
 
 // What a or b is, where a above the k bits of b is t.
@@ -21,11 +21,12 @@ pub(crate) fn inverse_concat(i: u32, wa: u32, wb: u32, s: u64, t: u64) -> Set
     basic::only_if(part(i, wb, t), part(1 - i, wb, t), s)
 }
 
-pub(crate) fn consistent_concat(i: u32, wa: u32, wb: u32, t: u64) -> Set
-    requires { ⌜ Joined i wa wb t ⌝ }
-    ensures { λ r. ⌜ Solves (sideOf i wa wb) (λ v. Some (sideOf (1 - i) wa wb) (λ s. joint i v s .a * 2 ^ wb + joint i v s .b ≡ t)) r ⌝ }
+// The rest of t has to agree with the other's pair l, h.
+pub(crate) fn consistent_concat(i: u32, wa: u32, wb: u32, l: u64, h: u64, t: u64) -> Set
+    requires { ⌜ Joined i wa wb t × (h < 2 ^ sideOf (1 - i) wa wb) ⌝ }
+    ensures { λ r. ⌜ Solves (sideOf i wa wb) (λ v. SomeAgreeing l h (λ s. joint i v s .a * 2 ^ wb + joint i v s .b ≡ t)) r ⌝ }
 {
-    basic::only(part(i, wb, t))
+    basic::only_where(part(i, wb, t), words::agrees(part(1 - i, wb, t), l, h))
 }
 
 // The w bits from bit k on are t, the others are free.

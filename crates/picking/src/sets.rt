@@ -45,28 +45,35 @@ pub(crate) fn inverse_set(s: Spot, i: u32, t: u64) -> Set
     }
 }
 
-// The values of position i that give t with some values of the others. Where there are no others they are the inverse
-// values; of xor, add, eq and if the others can make up for any value.
+// The values of position i that give t with some values of the others, of which those of and, xor, eq, below, if and concat agree
+// with their pairs. Where there are no others they are the inverse values; of add the other can make up for any value.
 pub(crate) fn consistent_set(s: Spot, i: u32, t: u64) -> Set
     requires { ⌜ Asked s i t ⌝ }
     ensures { λ r. ⌜ Solves (standing (s .widths) i) (λ v. Reaches s t i v) r ⌝ }
 {
     let kind = s.kind;
     let w = s.width;
+    let los = s.los;
+    let his = s.his;
+    let l = other(los, i);
+    let h = other(his, i);
     match kind {
         2 => bitwise::inverse_not(w, t),
-        3 => bitwise::consistent_and(w, t),
+        3 => bitwise::consistent_and(l, h, t),
+        4 => bitwise::consistent_xor(l, h, t),
+        5 => basic::all(),
         6 => arithmetic::consistent_mul(w, t),
         7 => shifts::consistent_shl(i, w, t),
         8 => shifts::consistent_lshr(i, w, t),
-        10 => comparisons::consistent_below(i, s.widths.a as u32, t),
-        12 => joining::consistent_concat(i, s.widths.a as u32, s.widths.b as u32, t),
+        9 => comparisons::consistent_eq(l, h, t),
+        10 => comparisons::consistent_below(i, l, h, t),
+        11 => choice::consistent_if(i, los, his, t),
+        12 => joining::consistent_concat(i, s.widths.a as u32, s.widths.b as u32, l, h, t),
         13 => joining::inverse_extract(w, s.low, t),
-        14 => signed::consistent_slt(i, s.widths.a as u32, t),
+        14 => signed::consistent_slt(i, s.widths.a as u32, l, h, t),
         15 => signed::consistent_ashr(i, w, t),
         16 => signed::inverse_sext(s.widths.a as u32, w, t),
         17 => divisions::consistent_udiv(i, w, t),
-        4..=5 | 9 | 11 => basic::all(),
         0..=1 | 18..=255 => Set::Empty,
     }
 }

@@ -10,8 +10,10 @@ use crate::unions::Union;
 ghost use mathlib.Core.Path.{_≡_};
 ghost use Prim.Native.Nat.{_-_, _^_, _≤_, _<_, min};
 ghost use Rattle.operators.specs.Meaning.{flag, signedLess, signedShift, extended};
+ghost use Rattle.operators.specs.Fixed.{pair};
+ghost use Rattle.operators.specs.inner.Ready.{Ternary};
 ghost use Rattle.operators.specs.laws.Signed.{turned};
-ghost use Rattle.picking.specs.inner.Boxes.{Solves, Some};
+ghost use Rattle.picking.specs.inner.Boxes.{Solves, Some, SomeAgreeing};
 ghost use Rattle.picking.specs.inner.Asks.{Word, Folded, joint};
 
 // ---- below, in the signed order: that of the words with their signs turned over
@@ -86,19 +88,16 @@ pub(crate) fn inverse_slt(i: u32, w: u32, s: u64, t: u64) -> Set
     up_to(w, s)
 }
 
-// Below some value are all but the greatest, and above some value all but the least.
-pub(crate) fn consistent_slt(i: u32, w: u32, t: u64) -> Set
-    requires { ⌜ (i < 2) × (1 ≤ w) × (w ≤ 64) × (t < 2) ⌝ }
-    ensures { λ r. ⌜ Solves w (λ v. Some w (λ s. flag (signedLess w (joint i v s .a) (joint i v s .b)) ≡ t)) r ⌝ }
+// The other's greatest value serves best where v has to be below it or at most it, else its least. The sign of the least is that of
+// h, of the greatest that of l.
+pub(crate) fn consistent_slt(i: u32, w: u32, l: u64, h: u64, t: u64) -> Set
+    requires { ⌜ (i < 2) × (1 ≤ w) × (w ≤ 64) × (t < 2) × Ternary w (pair l h) ⌝ }
+    ensures { λ r. ⌜ Solves w (λ v. SomeAgreeing l h (λ s. flag (signedLess w (joint i v s .a) (joint i v s .b)) ≡ t)) r ⌝ }
 {
-    if t == 0 {
-        return basic::all();
+    if i as u64 == t {
+        return inverse_slt(i, w, operators::sign_over(h, l, w), t);
     }
-    let h = operators::half(w);
-    if i == 0 {
-        return basic::apart(h - 1);
-    }
-    basic::apart(h)
+    inverse_slt(i, w, operators::sign_over(l, h, w), t)
 }
 
 // ---- arithmetic shift: the sign stays, so a target with its sign set goes by complements

@@ -8,7 +8,7 @@ use Rattle.operators.specs.declared.table.Rule.{Rule}
 use Rattle.operators.specs.declared.table.Shape.{Shape}
 use Rattle.operators.specs.Table.{kindOf, shapeOf, ruleHolds}
 use Rattle.operators.specs.Meaning.{flag, signedLess, signedShift, extended, quotient}
-use Rattle.operators.specs.Fixed.{pairOf}
+use Rattle.operators.specs.Fixed.{signOver, pairOf}
 
 -- every contract here is an equation
 equal : {A : Type 0} {v r s : A} → r ≡ v → s ≡ v → r ≡ s
@@ -58,6 +58,9 @@ right-signed-determined a b w r s = equal
 
 pub quotient-determined : (a b w r s : ℕ) → r ≡ quotient w a b → s ≡ quotient w a b → r ≡ s
 quotient-determined a b w r s = equal
+
+pub sign-over-determined : (a b w r s : ℕ) → r ≡ signOver w a b → s ≡ signOver w a b → r ≡ s
+sign-over-determined a b w r s = equal
 
 pub pair-of-determined : (op : Op) (p q r v u : Pair) → v ≡ pairOf (kindOf (op .kind)) (op .width) (op .wa) (op .wb) (op .low) p q r
     → u ≡ pairOf (kindOf (op .kind)) (op .width) (op .wa) (op .wb) (op .low) p q r → v ≡ u

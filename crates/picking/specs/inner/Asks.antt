@@ -6,7 +6,7 @@ use Prim.Native.Nat.{ℕ, zero, suc, _+_, _-_, _/_, _%_, _^_, _≤_, _<_}
 use Rattle.words.specs.Agree.{Agrees}
 use Rattle.picking.specs.declared.spot.Three.{Three}
 use Rattle.picking.specs.declared.spot.Spot.{Spot}
-use Rattle.picking.specs.Spot.{put, value, Inverse, Reaches, Consistent}
+use Rattle.picking.specs.Spot.{at, put, value, Inverse, Reaches, Consistent}
 
 -- a target of a width of at most 64 bits
 pub record Sized (w t : ℕ) : Type 0 where
@@ -65,6 +65,11 @@ Alone n = (n ≡ 2) ⊎ ((n ≡ 13) ⊎ (n ≡ 16))
 -- pair is lo, hi, and the other branch's l, h
 abbrev pub Had : ℕ → ℕ → ℕ → ℕ → ℕ → ℕ → ℕ → Type 0
 Had lo hi way kept l h t = (Agrees lo hi way × (kept ≡ t)) ⊎ (Agrees lo hi (1 - way) × Agrees l h t)
+
+-- t is had from an `if` whose position i has the value v, with values of the others that agree with the pairs los, his
+abbrev pub HadIf : Three → Three → ℕ → ℕ → ℕ → Type 0
+HadIf los his t zero v = Agrees (at los (branchOf v)) (at his (branchOf v)) t
+HadIf los his t (suc i) v = Had (los .a) (his .a) (1 - i) v (at los (2 - i)) (at his (2 - i)) t
 
 -- what is asked of a value at position i besides that it agrees: that it gives t with the others as they are, or with some
 abbrev pub Meets : Bool → Spot → ℕ → ℕ → ℕ → Type 0

@@ -118,8 +118,15 @@ pub record Solves (w : ℕ) (P : ℕ → Type 0) (S : Set) : Type 0 where
 abbrev pub Every : ℕ → Type 0
 Every v = Unit {0}
 
--- a value of w bits of which Q holds
-pub record Some (w : ℕ) (Q : ℕ → Type 0) : Type 0 where
+-- a value that A admits and of which Q holds
+pub record SomeOf (A Q : ℕ → Type 0) : Type 0 where
   pub by : ℕ
-  pub fits : by < 2 ^ w
+  pub fits : A by
   pub gives : Q by
+
+-- a value of w bits, or one that agrees with l, h, of which Q holds
+abbrev pub Some : ℕ → (ℕ → Type 0) → Type 0
+Some w Q = SomeOf (λ s. s < 2 ^ w) Q
+
+abbrev pub SomeAgreeing : ℕ → ℕ → (ℕ → Type 0) → Type 0
+SomeAgreeing l h Q = SomeOf (Agrees l h) Q

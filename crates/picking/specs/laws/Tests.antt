@@ -1,5 +1,5 @@
 -- The inverse and the consistent set of a position as tests that can be computed, for any spot: each value of the other
--- positions is tried.
+-- positions that is admitted is tried.
 use mathlib.Core.Path.{_≡_, refl, sym, ap, _∙_, subst}
 use mathlib.Core.Logic.{_⊎_, inl, inr}
 use mathlib.Core.Bool.{Bool, true, false, not, _&&_, _||_}
@@ -12,16 +12,21 @@ use lib.Ieee.Fits.{and-l, and-r}
 use borrow.Author.Tests.{eqb-true, eqb-false, lt-ltb, ne-eqb}
 use Rattle.words.specs.Agree.{Agrees}
 use Rattle.words.specs.laws.Agree.{agrees-of-within, lo-within, within-hi, agrees-lt}
-use Rattle.words.specs.laws.Cases.{Passes}
+use Rattle.words.specs.laws.Cases.{Passes, passed}
 use Rattle.picking.specs.declared.spot.Three.{Three}
 use Rattle.picking.specs.declared.spot.Spot.{Spot}
-use Rattle.picking.specs.Spot.{at, put, positions, Other, value, Inverse, Reaches, Consistent}
+use Rattle.picking.specs.Spot.{at, put, positions, Other, value, heldToPairs, Inverse, Admitted, Reaches, Consistent}
 use Rattle.picking.specs.laws.Positions.{few-positions, at-put-same, at-put-other, value-used}
 
 -- ---- tests and facts
 and-of : (a b : Bool) → T a → T b → T (a && b)
 and-of true b p q = q
 and-of false b p q = p
+
+-- a test that is asked for only where a first one passes
+asked : (a b : Bool) → (a ≡ true → T b) → T (not a || b)
+asked true b f = f refl
+asked false b f = tt
 
 same-of : {x y : ℕ} → x ≡ y → T (eqb x y)
 same-of {x} {y} e = subst (λ (n : ℕ). T (eqb x n)) e (eqb-refl x)
@@ -74,8 +79,28 @@ oneOf false a b = b
 abbrev tried : Spot → ℕ → ℕ → ℕ
 tried S i j = oneOf (otherB S i j) (2 ^ at (S .widths) j) 1
 
+-- and which of them pass: at another position, where the kind is held to pairs, those that agree
+abbrev passB : Spot → ℕ → ℕ → ℕ → Bool
+passB S i j x = not (otherB S i j) || (not (heldToPairs (S .kind)) || agreesB (at (S .los) j) (at (S .his) j) x)
+
+record Tried (S : Spot) (i j x : ℕ) : Type 0 where
+  below : x < tried S i j
+  pass : T (passB S i j x)
+
+-- one of them at position j has a property
+abbrev tryB : Spot → ℕ → ℕ → (ℕ → Bool) → Bool
+tryB S i j f = anyB (tried S i j) (λ x. passB S i j x && f x)
+
+try-to : (S : Spot) (i j : ℕ) (f : ℕ → Bool) → T (tryB S i j f) → (x : ℕ) × Tried S i j x × T (f x)
+try-to S i j f k =
+    let r = any-to (tried S i j) (λ x. passB S i j x && f x) k in
+    (r .0, record { below = r .1; pass = and-l (passB S i j (r .0)) (f (r .0)) (r .2) }, and-r (passB S i j (r .0)) (f (r .0)) (r .2))
+
+try-back : (S : Spot) (i j : ℕ) (f : ℕ → Bool) (x : ℕ) → Tried S i j x → T (f x) → T (tryB S i j f)
+try-back S i j f x m k = any-back (tried S i j) (λ x. passB S i j x && f x) x (m .below) (and-of (passB S i j x) (f x) (m .pass) k)
+
 abbrev pub reachB : Spot → ℕ → ℕ → ℕ → Bool
-reachB S t i v = anyB (tried S i 0) (λ x. anyB (tried S i 1) (λ y. anyB (tried S i 2) (λ z. eqb (value S (put (three x y z) i v)) t)))
+reachB S t i v = tryB S i 0 (λ x. tryB S i 1 (λ y. tryB S i 2 (λ z. eqb (value S (put (three x y z) i v)) t)))
 
 -- what holds of each of three positions
 each-of : (P : ℕ → Type 0) → P 0 → P 1 → P 2 → (j : ℕ) → j < 3 → P j
@@ -99,16 +124,22 @@ module _ (S : Spot) (t i v : ℕ) (here : i < positions S) where
         apart = λ q. T-not (eqb j i) (and-r (ltb j (positions S)) (not (eqb j i)) k) (same-of q);
       }
 
+  admitted-to : (j x : ℕ) → Other S i j → Tried S i j x → Admitted S j x
+  admitted-to j x q m = record {
+    fits = subst (λ (b : Bool). x < oneOf b (2 ^ at (S .widths) j) 1) (other-test j q) (m .below);
+    agrees = λ e. agrees-to (at (S .los) j) (at (S .his) j) x (passed (heldToPairs (S .kind)) _ (subst T (sym e) tt) (passed (otherB S i j) _ (subst T (sym (other-test j q)) tt) (m .pass)));
+  }
+
   reach-to : T (reachB S t i v) → Reaches S t i v
   reach-to k =
-      let x = any-to (tried S i 0) (λ x. anyB (tried S i 1) (λ y. anyB (tried S i 2) (λ z. eqb (value S (put (three x y z) i v)) t))) k in
-      let y = any-to (tried S i 1) (λ y. anyB (tried S i 2) (λ z. eqb (value S (put (three (x .0) y z) i v)) t)) (x .2) in
-      let z = any-to (tried S i 2) (λ z. eqb (value S (put (three (x .0) (y .0) z) i v)) t) (y .2) in
+      let x = try-to S i 0 (λ x. tryB S i 1 (λ y. tryB S i 2 (λ z. eqb (value S (put (three x y z) i v)) t))) k in
+      let y = try-to S i 1 (λ y. tryB S i 2 (λ z. eqb (value S (put (three (x .0) y z) i v)) t)) (x .2) in
+      let z = try-to S i 2 (λ z. eqb (value S (put (three (x .0) (y .0) z) i v)) t) (y .2) in
       let o = three (x .0) (y .0) (z .0) in
-      let l : (j : ℕ) → j < 3 → at o j < tried S i j = each-of (λ j. at o j < tried S i j) (x .1) (y .1) (z .1) in
+      let l : (j : ℕ) → j < 3 → Tried S i j (at o j) = each-of (λ j. Tried S i j (at o j)) (x .1) (y .1) (z .1) in
       record {
         others = o;
-        any = λ j q. subst (λ (b : Bool). at o j < oneOf b (2 ^ at (S .widths) j) 1) (other-test j q) (l j (few j (q .below)));
+        admitted = λ j q. admitted-to j (at o j) q (l j (few j (q .below)));
         gives = eqb→eq (value S (put o i v)) t (z .2);
       }
 
@@ -123,12 +154,17 @@ module _ (S : Spot) (t i v : ℕ) (here : i < positions S) where
     kept-at : (j : ℕ) → j < 3 → at kept j ≡ keep j
     kept-at = each-of (λ j. at kept j ≡ keep j) refl refl refl
 
-    short : (j : ℕ) → keep j < tried S i j
-    short j = go (otherB S i j) refl
+    keep-tried : (j : ℕ) → Tried S i j (keep j)
+    keep-tried j = record { below = go (otherB S i j) refl; pass = asked (otherB S i j) _ (λ e. asked (heldToPairs (S .kind)) _ (λ d. pass e d)) }
       where
         go : (b : Bool) → otherB S i j ≡ b → oneOf b (at (m .others) j) 0 < oneOf b (2 ^ at (S .widths) j) 1
-        go true e = m .any j (test-other j e)
+        go true e = m .admitted j (test-other j e) .fits
         go false e = omega arith
+
+        pass : otherB S i j ≡ true → heldToPairs (S .kind) ≡ true → T (agreesB (at (S .los) j) (at (S .his) j) (keep j))
+        pass e d =
+            subst (λ (b : Bool). T (agreesB (at (S .los) j) (at (S .his) j) (oneOf b (at (m .others) j) 0))) (sym e)
+            (agrees-back (at (S .los) j) (at (S .his) j) (at (m .others) j) (m .admitted j (test-other j e) .agrees d))
 
     same : (j : ℕ) → j < positions S → at (put kept i v) j ≡ at (put (m .others) i v) j
     same j h = go (eqb j i) refl
@@ -143,9 +179,9 @@ module _ (S : Spot) (t i v : ℕ) (here : i < positions S) where
 
     reach-back : T (reachB S t i v)
     reach-back =
-        any-back (tried S i 0) (λ x. anyB (tried S i 1) (λ y. anyB (tried S i 2) (λ z. eqb (value S (put (three x y z) i v)) t))) (keep 0) (short 0)
-        (any-back (tried S i 1) (λ y. anyB (tried S i 2) (λ z. eqb (value S (put (three (keep 0) y z) i v)) t)) (keep 1) (short 1)
-        (any-back (tried S i 2) (λ z. eqb (value S (put (three (keep 0) (keep 1) z) i v)) t) (keep 2) (short 2)
+        try-back S i 0 (λ x. tryB S i 1 (λ y. tryB S i 2 (λ z. eqb (value S (put (three x y z) i v)) t))) (keep 0) (keep-tried 0)
+        (try-back S i 1 (λ y. tryB S i 2 (λ z. eqb (value S (put (three (keep 0) y z) i v)) t)) (keep 1) (keep-tried 1)
+        (try-back S i 2 (λ z. eqb (value S (put (three (keep 0) (keep 1) z) i v)) t) (keep 2) (keep-tried 2)
         (same-of (value-used S (put kept i v) (put (m .others) i v) same ∙ m .gives))))
 
 -- ---- the two sets

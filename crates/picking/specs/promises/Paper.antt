@@ -67,8 +67,8 @@ node k w x y = record {
   current = record { a = x .now; b = y .now; c = 0 };
 }
 
--- the kinds by their numbers: 3 and, 5 add, 6 mul, 7 shl, 8 lshr, 9 eq, 10 below, 14 signed below, 15 arithmetic shift, 16 sign extension, 17
--- division; x stands at position 0 but where an amount or a divisor is asked for
+-- the kinds by their numbers: 3 and, 4 xor, 5 add, 6 mul, 7 shl, 8 lshr, 9 eq, 10 below, 12 concat, 14 signed below, 15 arithmetic shift,
+-- 16 sign extension, 17 division; x stands at position 0 but where an amount or a divisor is asked for
 pub record PaperNumbers : Type 0 where
   -- "4 bits, x · 6 = 2: inverse set 3, 11. Proposal 4 gives 11; 12 gives 3."
   pub product : Exactly (Inverse (node 6 4 (free 4) (number 4 6)) 2 0) (3 ∷ 11 ∷ [])
@@ -134,6 +134,21 @@ pub record PaperNumbers : Type 0 where
   -- 13 by 0 is 1111; 13 by 0*** is open.
   pub quotient-pair : (r : Pair) → pairOf udiv 4 4 4 0 (pair 13 13) (pair 0 0) r ≡ pair 15 15
   pub quotient-open : (r : Pair) → pairOf udiv 4 4 4 0 (pair 13 13) (pair 0 7) r ≡ pair 0 15
+  -- R-4, consistent: s has fixed bits too. 4 bits, x & s = 2 with s of pair 1, 15: 2, 6, 10, 14; of pair 0, 13, which lacks the bit: nothing.
+  pub held-mask : Exactly (Consistent (node 3 4 (free 4) (operand 4 1 15 1)) 2 0) (2 ∷ 6 ∷ 10 ∷ 14 ∷ [])
+  pub held-none : Exactly (Consistent (node 3 4 (free 4) (operand 4 0 13 0)) 2 0) []
+  -- x xor s = 3 with s of pair 5, 7: 4 and 6. x eq s, target 1: 5 and 7; target 0 with s fixed at 5: all but 5.
+  pub held-xor : Exactly (Consistent (node 4 4 (free 4) (operand 4 5 7 5)) 3 0) (4 ∷ 6 ∷ [])
+  pub held-equal : Exactly (Consistent (node 9 1 (free 4) (operand 4 5 7 5)) 1 0) (5 ∷ 7 ∷ [])
+  pub held-apart : Exactly (Consistent (node 9 1 (free 3) (number 3 5)) 0 0) (0 ∷ 1 ∷ 2 ∷ 3 ∷ 4 ∷ 6 ∷ 7 ∷ [])
+  -- x below s with s of pair 0, 2: 0 and 1. x signed below s with s of pair 8, 9 (-8 or -7): 8.
+  pub held-below : Exactly (Consistent (node 10 1 (free 4) (operand 4 0 2 0)) 1 0) (0 ∷ 1 ∷ [])
+  pub held-signed : Exactly (Consistent (node 14 1 (free 4) (operand 4 8 9 8)) 1 0) (8 ∷ [])
+  -- x above the 2 bits of s is 9: 2, if s may be 1; with s of pair 2, 3 nothing.
+  pub held-joined : Exactly (Consistent (node 12 4 (free 2) (operand 2 0 1 0)) 9 0) (2 ∷ [])
+  pub held-apart-joined : Exactly (Consistent (node 12 4 (free 2) (operand 2 2 3 2)) 9 0) []
+  -- of a kind that stays, s is any at all: x lshr s = 6 with s fixed at 1: 6, 12, 13 as before.
+  pub stayed : Exactly (Consistent (node 8 4 (free 4) (number 4 1)) 6 0) (6 ∷ 12 ∷ 13 ∷ [])
 
 -- ---- its proof: small widths by a test of every value, 64 bits by law
 
@@ -315,4 +330,14 @@ paper-numbers = record {
   dividend-7 = consistent-pick (node 17 4 (free 4) (free 4)) 6 0 (omega arith) (omega arith) 7 12 tt;
   quotient-pair = λ r. refl;
   quotient-open = λ r. refl;
+  held-mask = consistents (node 3 4 (free 4) (operand 4 1 15 1)) 2 0 (omega arith) (omega arith) (2 ∷ 6 ∷ 10 ∷ 14 ∷ []) tt;
+  held-none = consistents (node 3 4 (free 4) (operand 4 0 13 0)) 2 0 (omega arith) (omega arith) [] tt;
+  held-xor = consistents (node 4 4 (free 4) (operand 4 5 7 5)) 3 0 (omega arith) (omega arith) (4 ∷ 6 ∷ []) tt;
+  held-equal = consistents (node 9 1 (free 4) (operand 4 5 7 5)) 1 0 (omega arith) (omega arith) (5 ∷ 7 ∷ []) tt;
+  held-apart = consistents (node 9 1 (free 3) (number 3 5)) 0 0 (omega arith) (omega arith) (0 ∷ 1 ∷ 2 ∷ 3 ∷ 4 ∷ 6 ∷ 7 ∷ []) tt;
+  held-below = consistents (node 10 1 (free 4) (operand 4 0 2 0)) 1 0 (omega arith) (omega arith) (0 ∷ 1 ∷ []) tt;
+  held-signed = consistents (node 14 1 (free 4) (operand 4 8 9 8)) 1 0 (omega arith) (omega arith) (8 ∷ []) tt;
+  held-joined = consistents (node 12 4 (free 2) (operand 2 0 1 0)) 9 0 (omega arith) (omega arith) (2 ∷ []) tt;
+  held-apart-joined = consistents (node 12 4 (free 2) (operand 2 2 3 2)) 9 0 (omega arith) (omega arith) [] tt;
+  stayed = consistents (node 8 4 (free 4) (number 4 1)) 6 0 (omega arith) (omega arith) (6 ∷ 12 ∷ 13 ∷ []) tt;
 }

@@ -10,10 +10,10 @@ use native.Mathlib.Decide.{ℕ-discrete}
 use lib.Pow.{pow-mono}
 use lib.ListN.{length, getD}
 use Rattle.words.specs.Agree.{Agrees}
-use Rattle.words.specs.laws.Agree.{lo-within, within-hi, within-antisym}
+use Rattle.words.specs.laws.Agree.{agrees-only}
 use Rattle.words.specs.laws.Pick.{pick-self}
 use Rattle.picking.specs.declared.spot.Spot.{Spot}
-use Rattle.picking.specs.Spot.{at, put, positions, Other, value, Essential, NoneEssential, Consistent, Candidate}
+use Rattle.picking.specs.Spot.{at, put, positions, Other, value, Admitted, Essential, NoneEssential, Consistent, Candidate}
 use Rattle.evaluation.specs.Problem.{Prob, count, arg, Variable, spotOf, spot, pairLo, pairHi}
 use Rattle.search.specs.Step.{Follows, Follows.consistent, Step, Step.followed, goes}
 use Rattle.search.specs.Run.{sets, Walk, Walk.arrives, Walk.onward}
@@ -25,10 +25,6 @@ use Rattle.evaluation.specs.laws.Decide.{Some, dec-some, all-or-some, Listed, l
 use Rattle.search.specs.laws.Candidates.{dec-essential, dec-candidate}
 use Rattle.evaluation.specs.laws.Nodes.{variable, constant, inner, which, at-column, operands, value-constant, value-operator, value-same, operand-node, width-at}
 use Rattle.evaluation.specs.laws.Pairs.{agreeing-lt}
-
--- a value that agrees with a pair whose bits are all fixed is that pair's
-agrees-only : {lo hi v : ℕ} → Agrees lo hi v → lo ≡ hi → v ≡ lo
-agrees-only {lo} {hi} {v} a e = within-antisym (rw (← e) at (within-hi a)) (lo-within a)
 
 -- words that a tape can hold
 abbrev pub Small : List ℕ → Type 0
@@ -102,16 +98,20 @@ module _ (P : Prob) (g : Good P) (vs us : List ℕ) (ev : Evaluated P vs) (eu : 
     unfolding spotOf
     position-width i h = width-at P g n l i h
 
-    any-at : (i j : ℕ) → Other S i j → at (operands P us n) j < 2 ^ at (S .widths) j
+    -- the solution agrees with every node's pair, so its values are admitted
+    admitted-at : (i j : ℕ) → Other S i j → Admitted S j (at (operands P us n) j)
     unfolding spotOf
-    any-at i j o = rw (at-column P (λ m. getD us m 0) n j (o .below), position-width j (o .below)) (fits j (o .below))
+    admitted-at i j o = record {
+      fits = rw (at-column P (λ m. getD us m 0) n j (o .below), position-width j (o .below)) (fits j (o .below));
+      agrees = λ _. agree-other i j o;
+    }
 
     -- the solution's value is consistent
     member : (i : ℕ) → i < count P n → Consistent S t i (getD us (arg P n i) 0)
     member i h =
         record {
           agrees = agree-at us fu i h;
-          reaches = record { others = operands P us n; any = any-at i; gives = gives-at i _ h refl };
+          reaches = record { others = operands P us n; admitted = admitted-at i; gives = gives-at i _ h refl };
         }
 
     -- a candidate that differs

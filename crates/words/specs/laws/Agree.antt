@@ -53,6 +53,10 @@ within-ones {v} w h =
 pub agrees-lt : {lo hi v : ℕ} (w : ℕ) → hi < 2 ^ w → Agrees lo hi v → v < 2 ^ w
 agrees-lt w h g = lt-of-le-of-lt (within-le (within-hi g)) h
 
+-- what agrees with a pair that is fully fixed is its one value
+pub agrees-only : {lo hi v : ℕ} → Agrees lo hi v → lo ≡ hi → v ≡ lo
+agrees-only {lo} {hi} {v} a e = within-antisym (rw (← e) at (within-hi a)) (lo-within a)
+
 -- a bit is within 1
 pub bit-within-one : (x : ℕ) → x < 2 → Within x 1
 bit-within-one x h = within-ones 1 h

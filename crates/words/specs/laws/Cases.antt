@@ -37,7 +37,8 @@ or-case : (a b : Bool) → T (a || b) → T a ⊎ T b
 or-case true b t = inl tt
 or-case false b t = inr t
 
-passed : (a b : Bool) → T a → T (not a || b) → T b
+-- a test that is asked for only where a first one passes
+pub passed : (a b : Bool) → T a → T (not a || b) → T b
 passed true b h t = t
 passed false b h t = absurd h
 

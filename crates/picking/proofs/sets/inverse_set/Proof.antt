@@ -6,7 +6,7 @@ use lib.Bits.{and-comm, xor-comm}
 use borrow.Author.Needs.{needs}
 use Rattle.picking.proofs.ArithmeticLaws.{sum-comm, product-comm}
 use Rattle.picking.proofs.ComparisonLaws.{equal-comm}
-use Rattle.picking.proofs.KindLaws.{no-inverse-left}
+use Rattle.picking.proofs.KindLaws.{no-set-left}
 use Rattle.picking.proofs.SpotLaws.{rule-at, slot-at, wide-at, place, both-lt, flag-target, joined-at, extract-at, sext-at, short-at, arm, arm-one, wide-arm, both-arm, equal-lt, equal-arm, side-lt, side-arm, alike-by}
 use Rattle.picking.proofs.sets.inverse_set.Statement.{statement}
 use Rattle.picking.proofs.sets.inverse_set.Tie as tie
@@ -194,7 +194,7 @@ returns-16 c =
     both-arm (s .pre) (c .before .match .keys16) refl (c .before .before .other .ensures) (c .inverse-udiv .ensures)
 
 returns-17 : tie.Need-returns-17
-returns-17 c = absurd (no-inverse-left (c .before .before .before .pre .fair) (c .match .rest))
+returns-17 c = absurd (no-set-left (c .before .before .before .pre .fair) (c .match .rest))
 
 pub inverse-set-spec : {M : Type 1} → statement M
 inverse-set-spec =
