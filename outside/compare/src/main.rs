@@ -127,23 +127,33 @@ fn picks(subject: &impl Subject, seed: u64, spots: u64, cases: u64) -> Result<()
     let start = Instant::now();
     let extent = Extent { operand: 4, node: 6, spots, seed };
     let counts = narrow::compare(subject, extent).map_err(|d| format!("difference: {d}"))?;
-    println!("{:8} {:>9} {:>9} {:>12} {:>11}", "kind", "operators", "spots", "picks", "essentials");
+    println!(
+        "{:8} {:>9} {:>9} {:>12} {:>12} {:>11}",
+        "kind", "operators", "spots", "picks", "narrowed", "essentials"
+    );
     for (kind, count) in Kind::ALL.iter().zip(counts).skip(2) {
         println!(
-            "{:8} {:>9} {:>9} {:>12} {:>11}",
+            "{:8} {:>9} {:>9} {:>12} {:>12} {:>11}",
             kind.name(),
             count.operators,
             count.spots,
             count.picks,
+            count.narrowed,
             count.essentials
         );
     }
     let picks: u64 = counts.iter().map(|count| count.picks).sum();
-    println!("narrow: {picks} picks, no difference, {}", seconds(start));
+    let narrowed: u64 = counts.iter().map(|count| count.narrowed).sum();
+    println!(
+        "narrow: {picks} picks, {narrowed} from sets that the others' fixed bits make smaller, no difference, {}",
+        seconds(start)
+    );
     let start = Instant::now();
     let found = wide::compare(subject, cases, seed).map_err(|d| format!("difference: {d}"))?;
     println!(
-        "wide: {cases} cases of each kind and position, {found} values picked, no difference, {}",
+        "wide: {cases} cases of each kind and position, {} values picked, {} picks changed by the others' fixed bits, no difference, {}",
+        found.values,
+        found.narrowed,
         seconds(start)
     );
     let calls = refused::compare(subject, 500, seed).map_err(|d| format!("difference: {d}"))?;

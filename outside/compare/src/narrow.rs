@@ -2,8 +2,8 @@
 //! value of each operand, target and proposal, against the definitions.
 //!
 //! The definitions go through all values, so what they say is kept in tables: the inverse set of a
-//! free operand by the others' values and the target, the consistent set by the target, and the
-//! essential test by the value, the others' pairs and the target.
+//! free operand by the others' values and the target, the consistent set by the others' pairs and the
+//! target, and the essential test by the value, the others' pairs and the target.
 
 use crate::parts;
 use crate::subject::{Asked, Subject};
@@ -29,6 +29,8 @@ pub struct Count {
     pub operators: u64,
     pub spots: u64,
     pub picks: u64,
+    /// Picks from a consistent set that the others' pairs make smaller.
+    pub narrowed: u64,
     pub essentials: u64,
 }
 
@@ -42,6 +44,7 @@ pub fn compare(subject: &impl Subject, extent: Extent) -> Result<[Count; Kind::C
         count.operators += 1;
         count.spots += one.spots;
         count.picks += one.picks;
+        count.narrowed += one.narrowed;
         count.essentials += one.essentials;
     }
     Ok(counts)
@@ -68,6 +71,11 @@ fn pairs_of(width: u32) -> Vec<Pair> {
     } else {
         all_pairs(width)
     }
+}
+
+/// The place of a ternary word in the list of all.
+fn number_of(width: u32, pair: Pair) -> usize {
+    pairs_of(width).iter().position(|&other| other == pair).expect("a ternary word")
 }
 
 fn compare_operator(subject: &impl Subject, operator: &Operator, extent: Extent) -> Result<Count, String> {
@@ -114,6 +122,7 @@ fn compare_spot(
                     "essential at {position} for {target} of {spot:?}: answered {essential}"
                 ));
             }
+            count.narrowed += u64::from(table.is_narrowed(&chosen, target)) << operator.widths[position];
             for set in [Set::Inverse, Set::Consistent] {
                 let members = table.members(&chosen, set, target);
                 count.picks += 1 << operator.widths[position];
@@ -168,9 +177,11 @@ fn bits(members: impl IntoIterator<Item = u64>) -> u64 {
 struct Table {
     position: usize,
     others: [usize; 2],
-    /// The sizes of the other positions' values, and of their lists of pairs.
+    /// The sizes of the other positions' values, and of their lists of pairs; and where in these lists
+    /// all bits are free.
     values: [usize; 2],
     pairs: [usize; 2],
+    free: [usize; 2],
     targets: usize,
     own: usize,
     /// The members of each pair of the position.
@@ -189,6 +200,7 @@ impl Table {
             others,
             values: others.map(|at| count(operator.widths[at])),
             pairs: others.map(|at| pairs_of(operator.widths[at]).len()),
+            free: others.map(|at| number_of(operator.widths[at], Pair::free(operator.widths[at]))),
             targets: count(operator.width),
             own: count(operator.widths[position]),
             agreeing: pairs_of(operator.widths[position])
@@ -208,9 +220,6 @@ impl Table {
         let free = operator.widths.map(|width| if width == 0 { Pair::default() } else { Pair::free(width) });
         let mut spot = Spot { operator: *operator, pairs: free, values: [0; 3] };
         let targets = 0..self.targets as u64;
-        for target in targets.clone() {
-            self.consistent.push(bits(definition::members(&spot, Set::Consistent, position, target)));
-        }
         for first in 0..self.values[0] {
             for second in 0..self.values[1] {
                 spot.values[self.others[0]] = first as u64;
@@ -224,6 +233,9 @@ impl Table {
             for second in pairs_of(operator.widths[self.others[1]]) {
                 spot.pairs[self.others[0]] = first;
                 spot.pairs[self.others[1]] = second;
+                for target in targets.clone() {
+                    self.consistent.push(bits(definition::members(&spot, Set::Consistent, position, target)));
+                }
                 for own in 0..self.own {
                     spot.values[position] = own as u64;
                     for target in targets.clone() {
@@ -236,13 +248,24 @@ impl Table {
 
     fn members(&self, chosen: &[Operand; 3], set: Set, target: u64) -> u64 {
         let whole = match set {
-            Set::Consistent => self.consistent[target as usize],
+            Set::Consistent => self.consistent_of(self.others.map(|at| chosen[at].number), target),
             Set::Inverse => {
                 let [first, second] = self.others.map(|at| chosen[at].value as usize);
                 self.inverse[(first * self.values[1] + second) * self.targets + target as usize]
             }
         };
         whole & self.agreeing[chosen[self.position].number]
+    }
+
+    /// The consistent set of a free operand, by the others' pairs.
+    fn consistent_of(&self, [first, second]: [usize; 2], target: u64) -> u64 {
+        self.consistent[(first * self.pairs[1] + second) * self.targets + target as usize]
+    }
+
+    /// Whether the consistent set would have more members if the others were free.
+    fn is_narrowed(&self, chosen: &[Operand; 3], target: u64) -> bool {
+        let own = self.agreeing[chosen[self.position].number];
+        self.members(chosen, Set::Consistent, target) != self.consistent_of(self.free, target) & own
     }
 
     fn essential(&self, chosen: &[Operand; 3], target: u64) -> bool {

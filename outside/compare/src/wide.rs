@@ -6,8 +6,26 @@ use crate::subject::{Asked, Model, Subject};
 use generate::{spots, Rng};
 use model::{definition, exact, ones, Kind, Pair, Set, Spot};
 
-/// Compares `cases` spots of each kind and position; gives how many picks found a value.
-pub fn compare(subject: &impl Subject, cases: u64, seed: u64) -> Result<u64, String> {
+/// What was found.
+#[derive(Clone, Copy, Debug, Default)]
+pub struct Found {
+    /// Picks that had a value.
+    pub values: u64,
+    /// Consistent picks that would be others, or would have a value, if the other operands were free.
+    pub narrowed: u64,
+}
+
+impl std::iter::Sum for Found {
+    fn sum<All: Iterator<Item = Found>>(all: All) -> Found {
+        all.fold(Found::default(), |sum, one| Found {
+            values: sum.values + one.values,
+            narrowed: sum.narrowed + one.narrowed,
+        })
+    }
+}
+
+/// Compares `cases` spots of each kind and position.
+pub fn compare(subject: &impl Subject, cases: u64, seed: u64) -> Result<Found, String> {
     let with_positions = |kind: Kind| (0..kind.operands()).map(move |position| (kind, position));
     let places: Vec<(Kind, usize)> = Kind::ALL.into_iter().skip(2).flat_map(with_positions).collect();
     let found = parts::each(&places, |&(kind, position)| {
@@ -16,12 +34,12 @@ pub fn compare(subject: &impl Subject, cases: u64, seed: u64) -> Result<u64, Str
             compare_case(subject, &mut rng, kind, position)
                 .map_err(|difference| format!("case {case} of {}: {difference}", kind.name()))
         });
-        found.sum::<Result<u64, String>>()
+        found.sum::<Result<Found, String>>()
     })?;
     Ok(found.into_iter().sum())
 }
 
-fn compare_case(subject: &impl Subject, rng: &mut Rng, kind: Kind, position: usize) -> Result<u64, String> {
+fn compare_case(subject: &impl Subject, rng: &mut Rng, kind: Kind, position: usize) -> Result<Found, String> {
     let operator = spots::operator(rng, kind, 33, 64);
     let spot = spots::spot(rng, operator);
     let target = spots::target(rng, &spot, position);
@@ -42,7 +60,7 @@ fn compare_case(subject: &impl Subject, rng: &mut Rng, kind: Kind, position: usi
         }
     }
 
-    let mut found = 0;
+    let mut found = Found::default();
     for set in [Set::Inverse, Set::Consistent] {
         let proposal = spots::proposal(rng, &spot, position);
         let (mut out, mut expected) = ([u64::MAX], [u64::MAX]);
@@ -54,7 +72,9 @@ fn compare_case(subject: &impl Subject, rng: &mut Rng, kind: Kind, position: usi
             )));
         }
         let value = (answer == 1).then_some(out[0]);
-        found += u64::from(answer == 1);
+        found.values += u64::from(answer == 1);
+        found.narrowed +=
+            u64::from(exact::pick(&freed(&spot, position), set, position, target, proposal) != value);
         confirm(rng, &spot, set, position, target, proposal, value)
             .map_err(|fault| show(&format!("{set:?} pick of {proposal}: {fault}")))?;
     }
@@ -101,32 +121,53 @@ fn confirm(
     Ok(())
 }
 
-/// Membership by the definition; for the consistent set by values of the others that give the target.
-fn is_member(spot: &Spot, set: Set, position: usize, target: u64, v: u64) -> bool {
-    match set {
-        Set::Inverse => definition::has(spot, set, position, target, v),
-        Set::Consistent => spot.pairs[position].agrees(v) && witness(spot, position, target, v).is_some(),
+/// The spot with every bit of the other operands free.
+fn freed(spot: &Spot, position: usize) -> Spot {
+    let mut freed = *spot;
+    for other in (0..spot.operator.kind.operands()).filter(|&at| at != position) {
+        freed.pairs[other] = Pair::free(spot.operator.widths[other]);
     }
+    freed
 }
 
-/// Values of all positions, this one's being `v`, that give the target.
-fn witness(spot: &Spot, position: usize, target: u64, v: u64) -> Option<[u64; 3]> {
+/// Membership by the definition; for the consistent set by values of the others that give the target, and
+/// agree with their pairs in the kinds that ask for it.
+fn is_member(spot: &Spot, set: Set, position: usize, target: u64, v: u64) -> bool {
+    if set == Set::Inverse {
+        return definition::has(spot, set, position, target, v);
+    }
+    let spot = if spot.operator.kind.others_agree() { *spot } else { freed(spot, position) };
+    spot.pairs[position].agrees(v) && witness(&spot, position, v, target).is_some()
+}
+
+/// Agreeing values of all positions, this one's being `v`, that give the target.
+fn witness(spot: &Spot, position: usize, v: u64, target: u64) -> Option<[u64; 3]> {
     let operator = &spot.operator;
-    let mut spot = *spot;
-    spot.values[position] = v;
-    let found = match (operator.kind, position) {
-        (Kind::Not | Kind::Extract | Kind::SignExtend, _) => spot.values,
-        (Kind::If, 0) => [v, target, target],
-        (Kind::If, 1) => [0, v, target],
-        (Kind::If, _) => [1, target, v],
+    let mut values = spot.values;
+    values[position] = v;
+    let candidates = match operator.kind {
+        Kind::Not | Kind::Extract | Kind::SignExtend => vec![values],
+        // Either branch may give the target, and what is not taken may stay as it is.
+        Kind::If => {
+            let [a, b, c] = values;
+            match position {
+                0 => vec![[a, target, target], [a, target, c], [a, b, target]],
+                1 => vec![[1, b, c], [0, b, target]],
+                _ => vec![[0, b, c], [1, target, c]],
+            }
+        }
         _ => {
             let other = 1 - position;
-            spot.pairs[other] = Pair::free(operator.widths[other]);
-            spot.values[other] = exact::pick(&spot, Set::Inverse, other, target, 0)?;
-            spot.values
+            let there = Spot { values, ..*spot };
+            values[other] = exact::pick(&there, Set::Inverse, other, target, 0)?;
+            vec![values]
         }
     };
-    (operator.apply(found) == target).then_some(found)
+    let serves = |values: &[u64; 3]| {
+        let agree = (0..operator.kind.operands()).all(|at| spot.pairs[at].agrees(values[at]));
+        agree && operator.apply(*values) == target
+    };
+    candidates.into_iter().find(serves)
 }
 
 #[cfg(test)]
@@ -136,7 +177,9 @@ mod tests {
 
     #[test]
     fn the_model_and_plain_rust_pass() {
-        assert!(compare(&Model, 100, 1).unwrap() > 1000);
-        assert!(compare(&Plain, 2000, 1).unwrap() > 20_000);
+        let found = compare(&Model, 100, 1).unwrap();
+        assert!(found.values > 1000 && found.narrowed > 100, "{found:?}");
+        let found = compare(&Plain, 2000, 1).unwrap();
+        assert!(found.values > 20_000 && found.narrowed > 2000, "{found:?}");
     }
 }

@@ -29,6 +29,7 @@ enum Wrong {
     PassesTheProposalOver,
     JudgesEssentialByWidth,
     DropsTheConsistentChoice,
+    LetsTheOthersBeAnything,
     TakesShiftAmountsModulo,
     TakesOneOperatorForAnother,
     OrdersSignedAsUnsigned,
@@ -128,6 +129,9 @@ impl Subject for Wrong {
         if *self == DividesByZeroToZero && divides && asked.words[10] == 0 {
             asked.target ^= model::ones(asked.width);
         }
+        if *self == LetsTheOthersBeAnything && set == Set::Consistent {
+            free_the_others(&mut asked);
+        }
         let mut picked = [0];
         let found = Model.pick(&asked, set, proposal, &mut picked);
         if *self == DividesProductsAlone && divides && picked[0] % asked.target.max(1) != 0 {
@@ -143,11 +147,16 @@ impl Subject for Wrong {
     fn essential(&self, asked: &Asked) -> u8 {
         let mut asked = *asked;
         if *self == JudgesEssentialByWidth {
-            for at in [1, 2].map(|further| (asked.position as usize + further) % 3) {
-                (asked.words[3 + at], asked.words[6 + at]) = (0, model::ones(asked.words[at] as u32));
-            }
+            free_the_others(&mut asked);
         }
         Model.essential(&asked)
+    }
+}
+
+/// Takes the other operands' fixed bits away.
+fn free_the_others(asked: &mut Asked) {
+    for at in [1, 2].map(|further| (asked.position as usize + further) % 3) {
+        (asked.words[3 + at], asked.words[6 + at]) = (0, model::ones(asked.words[at] as u32));
     }
 }
 
@@ -204,6 +213,7 @@ fn wrong_picks_are_caught_at_few_bits_and_at_many() {
         PassesTheProposalOver,
         JudgesEssentialByWidth,
         DropsTheConsistentChoice,
+        LetsTheOthersBeAnything,
         TakesShiftAmountsModulo,
         TakesOneOperatorForAnother,
         OrdersSignedAsUnsigned,

@@ -43,23 +43,32 @@ pub fn spot(rng: &mut Rng, operator: Operator) -> Spot {
     Spot { operator, pairs, values }
 }
 
-/// A target: mostly one that some value of the position gives, with the others as they are or at
-/// any values; else any.
+/// A target: mostly one that some value of the position gives, with the others as they are, at values that
+/// agree, or at any values; at times with a bit turned; else any.
 pub fn target(rng: &mut Rng, spot: &Spot, position: usize) -> u64 {
     let operator = &spot.operator;
     let mut values = spot.values;
-    match rng.below(10) {
+    match rng.below(12) {
         0..=4 => {}
-        5..=7 => values = operator.widths.map(|width| if width == 0 { 0 } else { rng.value(width) }),
+        5..=7 => values = spot.pairs.map(|pair| rng.member(pair)),
+        8 | 9 => values = operator.widths.map(|width| if width == 0 { 0 } else { rng.value(width) }),
         _ => return rng.value(operator.width),
     }
     values[position] = rng.member(spot.pairs[position]);
-    operator.apply(values)
+    let turned = if rng.chance(10) { 1 << rng.below(operator.width as usize) } else { 0 };
+    operator.apply(values) ^ turned
 }
 
-/// A proposal: any word, one near a value that agrees, or one near the width's ends.
+/// A proposal: any word, one near a value that agrees or near an end of any operand's pair, or one near the
+/// width's ends.
 pub fn proposal(rng: &mut Rng, spot: &Spot, position: usize) -> u64 {
-    let near = rng.member(spot.pairs[position]);
+    let near = match rng.below(3) {
+        0 => {
+            let pair = rng.one_of(&spot.pairs[..spot.operator.kind.operands()]);
+            rng.one_of(&[pair.lo, pair.hi])
+        }
+        _ => rng.member(spot.pairs[position]),
+    };
     match rng.below(6) {
         0 => near,
         1 => near.wrapping_add(1),

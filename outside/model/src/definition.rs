@@ -8,6 +8,7 @@ use crate::{Set, Spot};
 pub fn has(spot: &Spot, set: Set, position: usize, target: u64, v: u64) -> bool {
     let others = match set {
         Set::Inverse => Others::Current,
+        Set::Consistent if spot.operator.kind.others_agree() => Others::Agreeing,
         Set::Consistent => Others::AnyAtAll,
     };
     spot.pairs[position].agrees(v) && gives(spot, position, target, v, others)

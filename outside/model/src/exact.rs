@@ -6,7 +6,7 @@
 
 use crate::operator::Kind;
 use crate::word::{ones, sign_extended, Pair};
-use crate::{Set, Spot};
+use crate::{pairs, Set, Spot};
 
 /// The pick from a set of a position.
 pub fn pick(spot: &Spot, set: Set, position: usize, target: u64, proposal: u64) -> Option<u64> {
@@ -64,7 +64,7 @@ fn least(holds: &impl Fn(Pair) -> bool, width: u32, mut word: Pair) -> Option<u6
 }
 
 /// Whether a value that agrees with `word` gives the target, the other positions at their current
-/// values (inverse) or at any values of their width (consistent).
+/// values (inverse), or at values that agree with their pairs or any at all, by kind (consistent).
 fn meets(spot: &Spot, set: Set, position: usize, target: u64, word: Pair) -> bool {
     match set {
         Set::Inverse => meets_inverse(spot, position, target, word),
@@ -125,12 +125,21 @@ fn meets_inverse(spot: &Spot, position: usize, t: u64, word: Pair) -> bool {
 fn meets_consistent(spot: &Spot, position: usize, t: u64, word: Pair) -> bool {
     let operator = &spot.operator;
     let w = operator.width;
+    let mut agreeing = spot.pairs;
+    agreeing[position] = word;
     match (operator.kind, position) {
-        // The others are any at all: at each bit, a 0 is always reached and a 1 needs this bit.
-        (Kind::And, _) => t & !word.hi == 0,
-        // Whatever this operand is, the other one makes up for it: by the difference, by the other
-        // branch with the condition set for it, by an equal or another value.
-        (Kind::Xor | Kind::Add | Kind::If | Kind::Eq, _) => true,
+        // The results of operands that agree are all that agree with a ternary word: that of the fixed
+        // bits, since bits are independent here or there is but one.
+        (Kind::And | Kind::Xor | Kind::Concat | Kind::Eq | Kind::Below | Kind::SignedBelow, _) => {
+            pairs::result(operator, agreeing).agrees(t)
+        }
+        // Those of a condition are the values of the branches that it may take.
+        (Kind::If, _) => {
+            let [a, b, c] = agreeing;
+            a.agrees(1) && b.agrees(t) || a.agrees(0) && c.agrees(t)
+        }
+        // Whatever this operand is, the other one makes up for it by the difference.
+        (Kind::Add, _) => true,
         // x · s = t has a solution s exactly if t is 0 or has at least as many zeros at its end as x.
         (Kind::Mul, _) => t == 0 || word.hi & ones(t.trailing_zeros() + 1) != 0,
         // Amount w stands for all of w and more, and is a value of w bits.
@@ -139,14 +148,6 @@ fn meets_consistent(spot: &Spot, position: usize, t: u64, word: Pair) -> bool {
         }
         (Kind::Shl | Kind::Lshr | Kind::Ashr, _) => {
             some_amount(w, word, |by| shifts_to(operator.kind, w, Pair::free(w), by, t))
-        }
-        (Kind::Below, 0) => t == 0 || word.lo < operator.largest(1),
-        (Kind::Below, _) => t == 0 || word.hi > 0,
-        (Kind::Concat, 0) => word.agrees(t >> operator.widths[1]),
-        (Kind::Concat, _) => word.agrees(t & ones(operator.widths[1])),
-        (Kind::SignedBelow, _) => {
-            let (spot, word) = unsigned(spot, word);
-            meets_consistent(&spot, position, t, word)
         }
         (Kind::Div, 0) => meets_dividend(word, w, t),
         (Kind::Div, _) => {

@@ -89,6 +89,15 @@ impl Kind {
         }
     }
 
+    /// Document 02, R-4: whether the consistent set admits only such values of the other positions as agree
+    /// with their pairs.
+    pub fn others_agree(self) -> bool {
+        match self {
+            And | Xor | Eq | Below | SignedBelow | If | Concat => true,
+            Variable | Constant | Not | Add | Mul | Shl | Lshr | Extract | Ashr | SignExtend | Div => false,
+        }
+    }
+
     /// The name that the text form has for it.
     pub fn name(self) -> &'static str {
         match self {

@@ -147,7 +147,7 @@ mod tests {
         for_every_operator_and_pairs(|operator, pairs| {
             let exact = match operator.kind {
                 Kind::Not | Kind::And | Kind::Xor | Kind::Concat | Kind::Extract => true,
-                Kind::Below | Kind::SignedBelow | Kind::SignExtend => true,
+                Kind::Eq | Kind::Below | Kind::SignedBelow | Kind::SignExtend => true,
                 Kind::Shl | Kind::Lshr | Kind::Ashr => pairs[1].is_fixed(),
                 _ => false,
             };

@@ -5,7 +5,8 @@
 //! value is another one. So some operand differs from the solution. Every essential operand does
 //! (were it at the solution's value, the solution's values of the others would give the target), and
 //! without essential operands all are candidates. The solution's value of the operand is a
-//! consistent one, and proposing it picks it. At its end each move sets one differing variable right.
+//! consistent one, since its values of the others give the target and agree with their pairs; and
+//! proposing it picks it. At its end each move sets one differing variable right.
 
 use crate::operator::Kind;
 use crate::run::Search;

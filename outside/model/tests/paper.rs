@@ -167,6 +167,67 @@ fn signed_words() {
     assert_eq!(pair(Kind::SignedBelow, sign_free, Pair::fixed(0)), Pair::free(1));
 }
 
+/// Document 02, R-4: the consistent sets by the other operand's pair.
+#[test]
+fn the_other_side_has_fixed_bits_too() {
+    let beside = |kind, pair: Pair, target| {
+        let mut spot = spot(kind, 4, Pair::free(4), pair.lo);
+        spot.pairs[1] = pair;
+        members(&spot, Set::Consistent, 0, target)
+    };
+    let all: Vec<u64> = (0..16).collect();
+    // 1**0
+    let pair = Pair { lo: 8, hi: 14 };
+    assert_eq!(beside(Kind::And, pair, 4), [4, 5, 6, 7]);
+    assert_eq!(beside(Kind::And, pair, 1), []);
+    assert_eq!(beside(Kind::Xor, pair, 1), [9, 11, 13, 15]);
+    assert_eq!(beside(Kind::Eq, pair, 1), [8, 10, 12, 14]);
+    assert_eq!(beside(Kind::Eq, pair, 0), all);
+    assert_eq!(
+        beside(Kind::Eq, Pair::fixed(5), 0),
+        all.iter().copied().filter(|&v| v != 5).collect::<Vec<_>>()
+    );
+    assert_eq!(beside(Kind::Below, pair, 1), (0..14).collect::<Vec<_>>());
+    assert_eq!(beside(Kind::Below, pair, 0), (8..16).collect::<Vec<_>>());
+    // -8 to -2
+    assert_eq!(beside(Kind::SignedBelow, pair, 1), (8..14).collect::<Vec<_>>());
+    assert_eq!(beside(Kind::SignedBelow, pair, 0), all);
+    // The remaining kinds stay.
+    assert_eq!(beside(Kind::Add, pair, 1), all);
+    assert_eq!(beside(Kind::Mul, pair, 1), all.iter().copied().filter(|v| v % 2 == 1).collect::<Vec<_>>());
+
+    let joined = Spot {
+        operator: Operator { kind: Kind::Concat, width: 8, widths: [4, 4, 0], low: 0 },
+        pairs: [Pair::free(4), pair, Pair::default()],
+        values: [0, 8, 0],
+    };
+    assert_eq!(members(&joined, Set::Consistent, 0, 0x3a), [3]);
+    assert_eq!(members(&joined, Set::Consistent, 0, 0x3b), []);
+}
+
+/// "Where the operands' pairs leave no value, the step is blocked": neither branch can be 1.
+#[test]
+fn a_step_is_blocked_where_no_branch_agrees() {
+    let branches = Problem {
+        nodes: vec![
+            variable(1, Pair::free(1)),
+            constant(2, 0),
+            constant(2, 3),
+            node(Kind::If, 2, [0, 1, 2]),
+            constant(2, 1),
+            node(Kind::Eq, 1, [3, 4, 0]),
+        ],
+        roots: vec![5],
+    };
+    let mut values = [0; 6];
+    let answer = model::run(&branches.bytes(), &mut values, &[0, 0, 0, 1, 1], 1);
+    assert_eq!(
+        answer,
+        model::Answer { moves: 1, steps: 2, words: 5, outcome: Outcome::Settled(Verdict::Spent) }
+    );
+    assert_eq!(values, [0, 0, 3, 3, 1, 0]);
+}
+
 #[test]
 fn division() {
     let by = |s| spot(Kind::Div, 4, Pair::free(4), s);

@@ -21,6 +21,25 @@ impl Spot {
     fn part(&self, position: usize) -> Part {
         Part::new(self.lo[position], self.hi[position])
     }
+
+    #[inline]
+    fn agrees(&self, position: usize, v: u64) -> bool {
+        self.part(position).agrees(v)
+    }
+
+    /// The greatest signed number that agrees: without the top bit where it may be 0.
+    #[inline]
+    fn greatest(&self, position: usize) -> u64 {
+        let top = 1 << (self.widths[position] - 1);
+        self.hi[position] & (self.lo[position] | !top)
+    }
+
+    /// The least: with it where it may be 1.
+    #[inline]
+    fn least(&self, position: usize) -> u64 {
+        let top = 1 << (self.widths[position] - 1);
+        self.lo[position] | self.hi[position] & top
+    }
 }
 
 /// The pick from the inverse set. The proposal is below 2 to the operand's width.
@@ -66,14 +85,34 @@ pub fn pick_inverse(spot: &Spot, position: usize, t: u64, p: u64) -> Option<u64>
     }
 }
 
-/// The pick from the consistent set. The proposal is below 2 to the operand's width.
+/// The pick from the consistent set. The proposal is below 2 to the operand's width. The other operands
+/// agree with their pairs in the kinds from AND to CONCAT below, and are any at all in the rest.
 #[inline]
 pub fn pick_consistent(spot: &Spot, position: usize, t: u64, p: u64) -> Option<u64> {
     let x = spot.part(position);
     let w = spot.width;
+    let other = usize::from(position == 0);
+    let (lo, hi) = (spot.lo[other], spot.hi[other]);
     match (spot.kind, position) {
-        (AND, _) => x.with(t, t).pick(p),
-        (XOR | ADD | EQ | IF, _) => x.pick(p),
+        // Where the other is 1, this bit is the target's; where the target is 1, both are.
+        (AND, _) => x.with(t | lo, t).pick_if(t & !hi == 0, p),
+        (XOR, _) => x.with(!(lo ^ hi), t ^ lo).pick(p),
+        (EQ, _) if t == 1 => x.with(!(lo ^ hi), lo).pick(p),
+        (EQ, _) if lo == hi => pick_except(x, lo, p),
+        (EQ, _) => x.pick(p),
+        (BELOW, 0) => pick_below(x, if t == 1 { hi } else { lo }, t, p),
+        (BELOW, _) => pick_above(x, if t == 1 { lo } else { hi }, t, p),
+        (SIGNED_BELOW, _) => {
+            let greatest = (position == 0) == (t == 1);
+            let bound = if greatest { spot.greatest(other) } else { spot.least(other) };
+            pick_signed(x, spot.widths[0], position, bound, t, p)
+        }
+        (IF, 0) => pick_condition(x, spot.agrees(1, t), spot.agrees(2, t), p),
+        (IF, 1) => pick_open_branch(x, spot.hi[0] == 1, spot.lo[0] == 0 && spot.agrees(2, t), t, p),
+        (IF, _) => pick_open_branch(x, spot.lo[0] == 0, spot.hi[0] == 1 && spot.agrees(1, t), t, p),
+        (CONCAT, 0) => pick_half(x, t >> spot.widths[1], spot.agrees(1, t & mask(spot.widths[1]))),
+        (CONCAT, _) => pick_half(x, t & mask(spot.widths[1]), spot.agrees(0, t >> spot.widths[1])),
+        (ADD, _) => x.pick(p),
         (MUL | SHL | LSHR, _) if t == 0 => x.pick(p),
         (MUL, _) => pick_divisor(x, t, p),
         (SHL, 0) => {
@@ -87,20 +126,11 @@ pub fn pick_consistent(spot: &Spot, position: usize, t: u64, p: u64) -> Option<u
         }
         (SHL, _) => x.up_to(u64::from(t.trailing_zeros())).pick(p),
         (LSHR, _) => x.up_to(u64::from(t.leading_zeros() - (64 - w))).pick(p),
-        (BELOW, 0) if t == 1 => x.up_to(mask(spot.widths[0]) - 1).pick(p),
-        (BELOW, _) if t == 1 => x.from(1).pick(p),
-        (BELOW, _) => x.pick(p),
-        (CONCAT, 0) => x.only(t >> spot.widths[1]),
-        (CONCAT, _) => x.only(t & mask(spot.widths[1])),
         (UDIV, 0) if t == mask(w) => x.pick(p),
         (UDIV, 0) if t == 0 => x.up_to(mask(w) - 1).pick(p),
         (UDIV, 0) => next_dividend(x, t, p).or_else(|| next_dividend(x, t, 0)),
         (UDIV, _) if t == mask(w) => x.up_to(1).pick(p),
         (UDIV, _) => x.from(1).up_to(mask(w).checked_div(t).unwrap_or(mask(w))).pick(p),
-        (SIGNED_BELOW, _) if t == 0 => x.pick(p),
-        // Every number but the greatest is below another, every one but the least above another.
-        (SIGNED_BELOW, 0) => pick_except(x, mask(spot.widths[0]) >> 1, p),
-        (SIGNED_BELOW, _) => pick_except(x, 1 << (spot.widths[1] - 1), p),
         (ASHR, 0) => pick_of_all((0..signs(t, w)).filter_map(|by| pick_kept(x, w, by, t)), p),
         (ASHR, _) if signs(t, w) == w => x.pick(p),
         (ASHR, _) => x.up_to(u64::from(signs(t, w)) - 1).pick(p),
@@ -112,14 +142,13 @@ pub fn pick_consistent(spot: &Spot, position: usize, t: u64, p: u64) -> Option<u
 #[inline]
 pub fn essential(spot: &Spot, position: usize, t: u64) -> bool {
     let mine = spot.now[position];
-    let agrees = |at: usize, v: u64| spot.part(at).agrees(v);
     let reached = match (spot.kind, position) {
         (NOT, _) => !mine & mask(spot.width) == t,
         (EXTRACT, _) => mine >> spot.low & mask(spot.width) == t,
         (SIGN_EXTEND, _) => sign_extended(mine, spot.widths[0]) & mask(spot.width) == t,
-        (IF, 0) => agrees(2 - mine as usize, t),
-        (IF, 1) => spot.hi[0] == 1 && mine == t || spot.lo[0] == 0 && agrees(2, t),
-        (IF, _) => spot.lo[0] == 0 && mine == t || spot.hi[0] == 1 && agrees(1, t),
+        (IF, 0) => spot.agrees(2 - mine as usize, t),
+        (IF, 1) => spot.hi[0] == 1 && mine == t || spot.lo[0] == 0 && spot.agrees(2, t),
+        (IF, _) => spot.lo[0] == 0 && mine == t || spot.hi[0] == 1 && spot.agrees(1, t),
         _ => pick_inverse(spot, 1 - position, t, 0).is_some(),
     };
     !reached
@@ -330,6 +359,18 @@ fn pick_branch(x: Part, taken: bool, other: u64, t: u64, p: u64) -> Option<u64> 
         x.only(t)
     } else {
         x.pick_if(other == t, p)
+    }
+}
+
+/// A branch that may be taken, beside another that may be taken with the target for its value.
+#[inline]
+fn pick_open_branch(x: Part, may_be_taken: bool, other_serves: bool, t: u64, p: u64) -> Option<u64> {
+    if other_serves {
+        x.pick(p)
+    } else if may_be_taken {
+        x.only(t)
+    } else {
+        None
     }
 }
 
