@@ -125,7 +125,7 @@ fn whole_tapes(subject: &impl Subject, seed: u64) -> Result<(), String> {
 
 fn picks(subject: &impl Subject, seed: u64, spots: u64, cases: u64) -> Result<(), String> {
     let start = Instant::now();
-    let extent = Extent { operand: 4, node: 6, spots, seed };
+    let extent = Extent { operand: 4, node: 8, whole: 6, spots, seed };
     let counts = narrow::compare(subject, extent).map_err(|d| format!("difference: {d}"))?;
     println!(
         "{:8} {:>9} {:>9} {:>12} {:>12} {:>11}",

@@ -18,6 +18,9 @@ pub struct Extent {
     /// The most bits of an operand and of a node.
     pub operand: u32,
     pub node: u32,
+    /// Operands of nodes up to so many bits have every current value that agrees; those of wider nodes, which
+    /// have more targets, one by chance for each pair.
+    pub whole: u32,
     /// Up to so many spots of an operator all are taken, else as many by chance.
     pub spots: u64,
     /// The chance seed.
@@ -64,6 +67,12 @@ fn operands(width: u32) -> Vec<Operand> {
     pairs_of(width).into_iter().enumerate().flat_map(with_values).collect()
 }
 
+/// Each pair with one value.
+fn operands_by_chance(width: u32, rng: &mut Rng) -> Vec<Operand> {
+    let with_value = |(number, pair): (usize, Pair)| Operand { pair, number, value: rng.member(pair) };
+    pairs_of(width).into_iter().enumerate().map(with_value).collect()
+}
+
 /// All ternary words of an operand; a position without an operand has zeros.
 fn pairs_of(width: u32) -> Vec<Pair> {
     if width == 0 {
@@ -80,11 +89,14 @@ fn number_of(width: u32, pair: Pair) -> usize {
 
 fn compare_operator(subject: &impl Subject, operator: &Operator, extent: Extent) -> Result<Count, String> {
     let mut count = Count::default();
-    let choices = operator.widths.map(operands);
+    let mut rng = Rng::new(extent.seed);
+    let mut choices = operator.widths.map(operands);
+    if operator.width > extent.whole {
+        choices = operator.widths.map(|width| operands_by_chance(width, &mut rng));
+    }
     let tables: Vec<Table> =
         (0..operator.kind.operands()).map(|position| Table::new(operator, position)).collect();
     let total: u64 = choices.iter().map(|list| list.len() as u64).product();
-    let mut rng = Rng::new(extent.seed);
     let mut compare = |number: u64| {
         let mut rest = number;
         let chosen = [0, 1, 2].map(|at| {
@@ -325,7 +337,7 @@ mod tests {
 
     #[test]
     fn the_model_and_plain_rust_pass_at_two_bits() {
-        let extent = Extent { operand: 2, node: 3, spots: u64::MAX, seed: 1 };
+        let extent = Extent { operand: 2, node: 4, whole: 3, spots: u64::MAX, seed: 1 };
         compare(&Model, extent).unwrap();
         compare(&Plain, extent).unwrap();
     }

@@ -207,7 +207,7 @@ fn an_h_one_too_small_is_caught_by_problems_that_use_every_word() {
 
 #[test]
 fn wrong_picks_are_caught_at_few_bits_and_at_many() {
-    let extent = Extent { operand: 3, node: 3, spots: 1000, seed: 1 };
+    let extent = Extent { operand: 3, node: 3, whole: 3, spots: 1000, seed: 1 };
     let wrongs = [
         ForgetsToGoRound,
         PassesTheProposalOver,
