@@ -128,16 +128,10 @@ returns c =
     reach-one (s .pre) (count-at (s .pre .fair) k) (arm-one (s .pre) k refl (le-of-eq (rule-at (s .pre .fair) k)) (c .inverse-not .ensures))
 
 returns-2 : tie.Need-returns-2
-returns-2 c =
-    let o = c .before .before in
-    let s = o .before .before .before .before in
-    wide-reach (s .pre) (c .before .match .keys2) refl refl (o .before .other .ensures) (o .other2 .ensures) (alike-some and-comm (s .args .i) (c .consistent-and .ensures))
+returns-2 c = let o = c .before .before in wide-reach (o .before .before .before .before .pre) (c .before .match .keys2) refl refl (o .before .other .ensures) (o .other2 .ensures) (alike-some and-comm (o .before .before .before .before .args .i) (c .consistent-and .ensures))
 
 returns-3 : tie.Need-returns-3
-returns-3 c =
-    let o = c .before .before in
-    let s = o .before .before .before .before in
-    wide-reach (s .pre) (c .before .match .keys3) refl refl (o .before .other .ensures) (o .other2 .ensures) (alike-some xor-comm (s .args .i) (c .consistent-xor .ensures))
+returns-3 c = let o = c .before .before in wide-reach (o .before .before .before .before .pre) (c .before .match .keys3) refl refl (o .before .other .ensures) (o .other2 .ensures) (alike-some xor-comm (o .before .before .before .before .args .i) (c .consistent-xor .ensures))
 
 returns-4 : tie.Need-returns-4
 returns-4 c =
@@ -160,16 +154,10 @@ returns-7 c =
     both-reach (s .pre) (c .before .match .keys7) refl refl (c .consistent-lshr .ensures)
 
 returns-8 : tie.Need-returns-8
-returns-8 c =
-    let o = c .before .before in
-    let s = o .before .before .before .before in
-    wide-reach (s .pre) (c .before .match .keys8) refl refl (o .before .other .ensures) (o .other2 .ensures) (alike-some equal-comm (s .args .i) (c .consistent-eq .ensures))
+returns-8 c = let o = c .before .before in wide-reach (o .before .before .before .before .pre) (c .before .match .keys8) refl refl (o .before .other .ensures) (o .other2 .ensures) (alike-some equal-comm (o .before .before .before .before .args .i) (c .consistent-eq .ensures))
 
 returns-9 : tie.Need-returns-9
-returns-9 c =
-    let o = c .before .before in
-    let s = o .before .before .before .before in
-    wide-reach (s .pre) (c .before .match .keys9) refl refl (o .before .other .ensures) (o .other2 .ensures) (c .consistent-below .ensures)
+returns-9 c = let o = c .before .before in wide-reach (o .before .before .before .before .pre) (c .before .match .keys9) refl refl (o .before .other .ensures) (o .other2 .ensures) (c .consistent-below .ensures)
 
 returns-10 : tie.Need-returns-10
 returns-10 c =
