@@ -31,7 +31,7 @@ module _ (w k v l n m : ℕ) (h : k ≤ w) (el : l ≡ v % 2 ^ k) (en : n ≡ 2 
   pub up-to-is : pair l (l + (n - m)) ≡ upTo w k v
   up-to-is = ap₂ (λ (x d : ℕ). pair x (x + d)) el (omega (arith, pow-pos k, pow-mono h))
 
--- a sum or product taken modulo 2^64 has the same low bits
+-- a product taken modulo 2^64 has the same low bits
 pub low-is : (w : ℕ) (p q r : Pair) (u v : ℕ) → r ≡ upTo w (lowest w p q) u → u ≡ v % 2 ^ 64 → w ≤ 64 → r ≡ upTo w (lowest w p q) v
 low-is w p q r u v e f h =
     let k = lowest w p q in

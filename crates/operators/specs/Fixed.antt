@@ -1,9 +1,13 @@
--- Document 01, "Fixed bits of inner nodes", and the same of 02's R-1 and R-11: the pair of a node, from its operands' pairs.
+-- Document 01, "Fixed bits of inner nodes", and the same of 02's R-1, R-9 and R-11: the pair of a node, from its operands' pairs.
+use mathlib.Core.Path.{_≡_}
 use mathlib.Core.Bool.{Bool, true, false}
+use mathlib.Core.Logic.{_↔_}
 use Prim.Native.Nat.{ℕ, zero, suc, _+_, _-_, _*_, _/_, _%_, _^_}
 use lib.Bits.{bitAnd, bitOr, bitXor}
 use lib.Count.{trailingZeros}
 use lib.Dec.{eqb, leb, ltb}
+use Rattle.words.specs.Agree.{Agrees, Within}
+use Rattle.words.specs.Bits.{bit}
 use Rattle.words.specs.inner.Words.{over}
 use Rattle.operators.specs.declared.fixed.Pair.{Pair}
 use Rattle.operators.specs.Table.{Kind, variable, constant, inv, conj, xor, add, mul, shl, lshr, eq, below, ite, concat, extract, slt, ashr, sext, udiv}
@@ -24,6 +28,10 @@ branch (suc c) p q = p
 abbrev pub freeOf : Pair → ℕ
 freeOf p = bitXor (p .lo) (p .hi)
 
+-- those free in one of two
+abbrev pub freeIn : Pair → Pair → ℕ
+freeIn p q = bitOr (freeOf p) (freeOf q)
+
 -- fully fixed
 abbrev pub fixed : Pair → Bool
 fixed p = eqb (p .lo) (p .hi)
@@ -36,17 +44,48 @@ anyOf w = pair 0 (2 ^ w - 1)
 abbrev pub known : ℕ → ℕ → Pair
 known v f = pair (bitXor v (bitAnd v f)) (bitOr v f)
 
--- add, mul: "let k be the lowest position free in either operand (w if none)"
+-- mul: "let k be the lowest position free in either operand (w if none)"
 abbrev pub lowest : ℕ → Pair → Pair → ℕ
-lowest w p q = trailingZeros w (bitOr (freeOf p) (freeOf q))
+lowest w p q = trailingZeros w (freeIn p q)
 
 -- "The low k bits are fixed, as computed; the others are free."
 abbrev pub upTo : ℕ → ℕ → ℕ → Pair
 upTo w k v = pair (v % 2 ^ k) (v % 2 ^ k + (2 ^ w - 2 ^ k))
 
+-- ---- add (02, R-9)
+
+-- bit j is fixed at b
+pub record FixedAt (p : Pair) (j b : ℕ) : Type 0 where
+  pub low : bit j (p .lo) ≡ b
+  pub high : bit j (p .hi) ≡ b
+
+-- bit j of the sum is b "for every pair of agreeing operand values, the two operands taken as independent"
+abbrev pub SameForAll : ℕ → Pair → Pair → ℕ → ℕ → Type 0
+SameForAll w p q j b = (x y : ℕ) → Agrees (p .lo) (p .hi) x → Agrees (q .lo) (q .hi) y → bit j ((x + y) % 2 ^ w) ≡ b
+
+-- "a result bit is fixed exactly if it is the same for every pair of agreeing operand values": what is to be believed of the pair s of a sum
+pub record SumOf (w : ℕ) (p q s : Pair) : Type 0 where
+  pub ternary : Within (s .lo) (s .hi)
+  pub exactly : (j b : ℕ) → FixedAt s j b ↔ SameForAll w p q j b
+
+-- ---- that pair in word operations. They need not be believed: by `sum-exactly` (promises/Forced) SumOf holds of this pair and of no other.
+
+-- the places that a sum of w bits carries into
+abbrev pub carries : ℕ → ℕ → ℕ → ℕ
+carries w x y = bitXor ((x + y) % 2 ^ w) (bitXor x y)
+
+-- where the least and the greatest sum carry differently
+abbrev pub unlike : ℕ → Pair → Pair → ℕ
+unlike w p q = bitXor (carries w (p .lo) (q .lo)) (carries w (p .hi) (q .hi))
+
+abbrev pub sumPair : ℕ → Pair → Pair → Pair
+sumPair w p q = known ((p .lo + q .lo) % 2 ^ w) (bitOr (freeIn p q) (unlike w p q))
+
+-- ---- the other kinds
+
 -- xor: a bit is forced exactly where both operands' bits are fixed
 abbrev pub apart : Pair → Pair → Pair
-apart p q = known (bitXor (p .lo) (q .lo)) (bitOr (freeOf p) (freeOf q))
+apart p q = known (bitXor (p .lo) (q .lo)) (freeIn p q)
 
 -- eq: "0 if some position is fixed both sides and differs" (the xor has a bit fixed at 1); "1 if both are fully fixed and
 -- equal" (the xor is fixed at 0); "else free"
@@ -108,7 +147,7 @@ pairOf constant w wa wb low p q r = pair 0 0
 pairOf inv w wa wb low p q r = pair ((2 ^ w - 1) - p .hi) ((2 ^ w - 1) - p .lo)
 pairOf conj w wa wb low p q r = pair (bitAnd (p .lo) (q .lo)) (bitAnd (p .hi) (q .hi))
 pairOf xor w wa wb low p q r = apart p q
-pairOf add w wa wb low p q r = upTo w (lowest w p q) (p .lo + q .lo)
+pairOf add w wa wb low p q r = sumPair w p q
 pairOf mul w wa wb low p q r = upTo w (lowest w p q) (p .lo * q .lo)
 pairOf shl w wa wb low p q r = shlPair w p q
 pairOf lshr w wa wb low p q r = lshrPair w p q

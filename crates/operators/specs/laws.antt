@@ -4,4 +4,5 @@ pub mod Division
 pub mod Meaning
 pub mod Signed
 pub mod Sound
+pub mod Sums
 pub mod Table

@@ -7,13 +7,14 @@ use crate::meaning::ones;
 use crate::meaning::part;
 use crate::meaning::quotient;
 use crate::meaning::right;
+use crate::meaning::sum;
 use crate::signed::extend;
 use crate::signed::less_signed;
 use crate::signed::right_signed;
 ghost use mathlib.Core.Path.{_≡_};
 ghost use Prim.Native.Nat.{_^_, _≤_, _<_};
 ghost use Rattle.operators.specs.Table.{kindOf};
-ghost use Rattle.operators.specs.Fixed.{anyOf, known, lowest, upTo, apart, eqPair, belowPair, shlPair, lshrPair, itePair, signOver, sltPair, ashrPair, sextPair, udivPair, pairOf};
+ghost use Rattle.operators.specs.Fixed.{anyOf, known, lowest, upTo, carries, sumPair, apart, eqPair, belowPair, shlPair, lshrPair, itePair, signOver, sltPair, ashrPair, sextPair, udivPair, pairOf};
 ghost use Rattle.operators.specs.Meaning.{signedLess};
 ghost use Rattle.operators.specs.inner.Ready.{Ternary, PairsReady};
 
@@ -63,12 +64,30 @@ fn up_to(v: u64, k: u32, w: u32) -> Pair
     }
 }
 
-// add and mul: the bits of v below the lowest free position, the others of w free.
+// mul: the bits of v below the lowest free position, the others of w free.
 fn low_pair(v: u64, p: Pair, q: Pair, w: u32) -> Pair
     requires { ⌜ w ≤ 64 ⌝ }
     ensures { λ r. ⌜ r ≡ upTo w (lowest w p q) v ⌝ }
 {
     up_to(v, lowest_free(p, q, w), w)
+}
+
+// The places that a sum of w bits carries into.
+fn carried(a: u64, b: u64, w: u32) -> u64
+    requires { ⌜ (1 ≤ w) × (w ≤ 64) ⌝ }
+    ensures { λ r. ⌜ r ≡ carries w a b ⌝ }
+{
+    sum(a, b, w) ^ (a ^ b)
+}
+
+// add: free where either is, and where the least and the greatest sum carry differently.
+fn sum_pair(p: Pair, q: Pair, w: u32) -> Pair
+    requires { ⌜ (1 ≤ w) × (w ≤ 64) ⌝ }
+    ensures { λ r. ⌜ r ≡ sumPair w p q ⌝ }
+{
+    let free = (p.lo ^ p.hi) | (q.lo ^ q.hi);
+    let unlike = carried(p.lo, q.lo, w) ^ carried(p.hi, q.hi, w);
+    with_free(sum(p.lo, q.lo, w), free | unlike)
 }
 
 // xor: free where either is.
@@ -248,7 +267,7 @@ pub fn pair_of(op: Op, p: Pair, q: Pair, r: Pair) -> Pair
             hi: p.hi & q.hi,
         },
         4 => xor_pair(p, q),
-        5 => low_pair(std::num::wrapping_add_u64(p.lo, q.lo), p, q, w),
+        5 => sum_pair(p, q, w),
         6 => low_pair(words::wrapping_mul(p.lo, q.lo), p, q, w),
         7 => left_pair(p, q, w),
         8 => right_pair(p, q, w),

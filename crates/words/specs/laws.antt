@@ -1,6 +1,7 @@
 -- Laws of the definitions, for proofs. Nothing here has to be read to know what is promised.
 pub mod Agree
 pub mod Bits
+pub mod Carry
 pub mod Cases
 pub mod Consist
 pub mod Decides

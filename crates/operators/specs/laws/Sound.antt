@@ -4,7 +4,7 @@ use mathlib.Core.Path.{_≡_, refl, sym, ap, ap₂, _∙_}
 use mathlib.Core.Bool.{Bool, true, false}
 use mathlib.Core.Logic.{_⊎_, inl, inr, ⊎-elim}
 use Prim.Native.Nat.{ℕ, zero, suc, _+_, _-_, _*_, _/_, _%_, _^_, _≤_, _<_, min, max, zero-le}
-use native.Mathlib.Nat.{le-refl, le-trans, le-of-lt, lt-of-lt-of-le, lt-of-le-of-lt, not-le-of-lt, mod-lt, add-mod, mul-le-mul-right, div-eq-of-lt, zero-mul, one-mul}
+use native.Mathlib.Nat.{le-refl, le-trans, le-of-lt, lt-of-lt-of-le, lt-of-le-of-lt, not-le-of-lt, mod-lt, mul-le-mul-right, div-eq-of-lt, zero-mul, one-mul}
 use native.Mathlib.Omega.{arith}
 use lib.Bits.{bitAnd, bitOr, bitXor, and-lt, or-lt, xor-lt, xor-self}
 use lib.Count.{trailing-le}
@@ -15,6 +15,7 @@ use Rattle.words.specs.Agree.{Within}
 use Rattle.words.specs.laws.Agree.{within-of-bits, bits-of-within, agrees-of-within, lo-within, within-hi, within-le, within-refl, within-trans, within-antisym, within-zero, within-ones, within-div, within-mod, within-over, within-shl, within-and-both, within-not, agrees-lt}
 use Rattle.words.specs.Bits.{bit}
 use Rattle.words.specs.laws.Bits.{bit-lt, bit-and, bit-or, bit-xor, bit-not, bit-shr, bit-high, bit-cut, bit-cut-high, bit-over-low, bit-over-high, ones-bit, same-low, split-at, lt-or-ge, xor-none}
+use Rattle.words.specs.laws.Carry.{carry, carry-lt, carry-mono, bit-sum}
 use Rattle.words.specs.laws.Modular.{cut-cut, mul-cuts}
 use Rattle.words.specs.laws.Narrow.{over-div, over-mod, over-lt}
 use Rattle.words.specs.laws.Zeros.{trailing-bit}
@@ -24,7 +25,7 @@ use Rattle.operators.specs.Meaning.{flag, choose, sign, signedLess, sign
 use Rattle.operators.specs.laws.Meaning.{joined-lt}
 use Rattle.operators.specs.laws.Division.{quotient-lt}
 use Rattle.operators.specs.laws.Signed.{halves, top-one, turned, Low, High, low-or-high, signed-order, ashr-low, ashr-high, some-bit, ashr-lt, extended-lt}
-use Rattle.operators.specs.Fixed.{pair, either, branch, freeOf, fixed, anyOf, known, lowest, upTo, apart, told, signOver, signedLeast, signedMost, sltPair, ashrPair, sextPair, udivPair, pairOf}
+use Rattle.operators.specs.Fixed.{pair, either, branch, freeOf, fixed, anyOf, known, lowest, upTo, freeIn, carries, unlike, sumPair, apart, told, signOver, signedLeast, signedMost, sltPair, ashrPair, sextPair, udivPair, pairOf}
 use Rattle.operators.specs.inner.Ready.{Used, Ordered, Ternary, Agreeing}
 
 -- lo is no greater than hi, so what bounds hi bounds lo
@@ -88,6 +89,43 @@ agrees-apart p q x y a b =
     agrees-known (bitXor (p .lo) (q .lo)) (bitOr (freeOf p) (freeOf q)) (bitXor x y)
     (λ j e. let n = none-free p q j e in
     bit-xor j (p .lo) (q .lo) ∙ ap₂ (λ (s t : ℕ). (s + t) % 2) (tight p x j a (n .0)) (tight q y j b (n .1)) ∙ sym (bit-xor j x y))
+
+-- ---- sums: both operands' bits fixed, and the same carried by the least and the greatest sum
+
+pub bit-carries : (i w x y : ℕ) → i < w → bit i (carries w x y) ≡ carry i x y
+bit-carries i w x y h =
+    bit-xor i ((x + y) % 2 ^ w) (bitXor x y)
+    ∙ ap₂ (λ (a b : ℕ). (a + b) % 2) (bit-cut i (x + y) w h ∙ bit-sum i x y) (bit-xor i x y)
+    ∙ alone (bit i x) (bit i y) (carry i x y) (carry-lt i x y)
+  where
+    alone : (a b c : ℕ) → c < 2 → ((a + b + c) % 2 + (a + b) % 2) % 2 ≡ c
+    alone a b c h = omega arith
+
+module _ (w : ℕ) (p q : Pair) (x y : ℕ) (a : Agreeing p x) (b : Agreeing q y) where
+  -- agreeing values carry what lies between, so the same where the two are the same
+  same-carry : (j : ℕ) → j < w → bit j (unlike w p q) ≡ 0 → carry j (p .lo) (q .lo) ≡ carry j x y
+  same-carry j h e =
+      between (carry j (p .lo) (q .lo)) (carry j x y) (carry j (p .hi) (q .hi)) (carry-lt j (p .hi) (q .hi))
+      (carry-mono j (lo-within a) (lo-within b)) (carry-mono j (within-hi a) (within-hi b))
+      (sym
+      (bit-xor j (carries w (p .lo) (q .lo)) (carries w (p .hi) (q .hi))
+      ∙ ap₂ (λ (s t : ℕ). (s + t) % 2) (bit-carries j w (p .lo) (q .lo) h) (bit-carries j w (p .hi) (q .hi) h))
+      ∙ e)
+    where
+      between : (l v h : ℕ) → h < 2 → l ≤ v → v ≤ h → (l + h) % 2 ≡ 0 → l ≡ v
+      between l v h k m n e = omega arith
+
+  agrees-sum : Agreeing (sumPair w p q) ((x + y) % 2 ^ w)
+  agrees-sum =
+      agrees-known ((p .lo + q .lo) % 2 ^ w) (bitOr (freeIn p q) (unlike w p q)) ((x + y) % 2 ^ w)
+      (λ j e. ⊎-elim (λ (h : j < w). bit-cut j (p .lo + q .lo) w h ∙ settled j h (rw (bit-or j (freeIn p q) (unlike w p q)) at e) ∙ sym (bit-cut j (x + y) w h))
+      (λ (h : w ≤ j). bit-cut-high j (p .lo + q .lo) w h ∙ sym (bit-cut-high j (x + y) w h)) (lt-or-ge j w))
+    where
+      settled : (j : ℕ) → j < w → max (bit j (freeIn p q)) (bit j (unlike w p q)) ≡ 0 → bit j (p .lo + q .lo) ≡ bit j (x + y)
+      settled j h e =
+          let n = none-free p q j (omega arith) in
+          let c = same-carry j h (omega arith) in
+          bit-sum j (p .lo) (q .lo) ∙ ap₂ (λ (s t : ℕ). (s + t) % 2) (ap₂ (λ (s t : ℕ). s + t) (tight p x j a (n .0)) (tight q y j b (n .1))) c ∙ sym (bit-sum j x y)
 
 -- ---- the low bits fixed
 
@@ -316,7 +354,7 @@ sound conj w wa wb low p q r x y z f u =
     let b = u .b (omega arith) in
     agrees-of-within (within-and-both (lo-within a) (lo-within b)) (within-and-both (within-hi a) (within-hi b))
 sound xor w wa wb low p q r x y z f u = agrees-apart p q x y (u .a (omega arith)) (u .b (omega arith))
-sound add w wa wb low p q r x y z f u = agrees-low (λ a b. a + b) add-mod w p q x y (u .a (omega arith)) (u .b (omega arith))
+sound add w wa wb low p q r x y z f u = agrees-sum w p q x y (u .a (omega arith)) (u .b (omega arith))
 sound mul w wa wb low p q r x y z f u = agrees-low (λ a b. a * b) mul-cuts w p q x y (u .a (omega arith)) (u .b (omega arith))
 sound shl w wa wb low p q r x y z f u =
     agrees-shifted (λ a s. a * 2 ^ s % 2 ^ w) (λ a b s h. within-mod w (within-shl s h)) w p q x y (u .a (omega arith)) (u .b (omega arith))
@@ -372,6 +410,17 @@ bit-short s t u v w hu hv h =
 free-lt : (w : ℕ) (p : Pair) → Ordered p → p .hi < 2 ^ w → freeOf p < 2 ^ w
 free-lt w p o h = xor-lt w (p .lo) (p .hi) (lo-lt o h) h
 
+free-in-lt : (w : ℕ) (p q : Pair) → Ordered p → Ordered q → p .hi < 2 ^ w → q .hi < 2 ^ w → freeIn p q < 2 ^ w
+free-in-lt w p q a b h k = or-lt w (freeOf p) (freeOf q) (free-lt w p a h) (free-lt w q b k)
+
+pub free-in-sum-lt : (w : ℕ) (p q : Pair) → Ordered p → Ordered q → p .hi < 2 ^ w → q .hi < 2 ^ w → bitOr (freeIn p q) (unlike w p q) < 2 ^ w
+free-in-sum-lt w p q a b h k =
+    or-lt w (freeIn p q) (unlike w p q) (free-in-lt w p q a b h k)
+    (xor-lt w (carries w (p .lo) (q .lo)) (carries w (p .hi) (q .hi)) (carries-lt (p .lo) (q .lo) (lo-lt a h) (lo-lt b k)) (carries-lt (p .hi) (q .hi) h k))
+  where
+    carries-lt : (x y : ℕ) → x < 2 ^ w → y < 2 ^ w → carries w x y < 2 ^ w
+    carries-lt x y hx hy = xor-lt w ((x + y) % 2 ^ w) (bitXor x y) (mod-lt (x + y) (pow-pos w)) (xor-lt w x y hx hy)
+
 pair-short : (o : Kind) (w wa wb low : ℕ) (p q r : Pair) → 1 ≤ w → Fit (shape o .rule) w wa wb low (p .hi) (q .hi) (r .hi)
     → Used (shape o .operands) (Ordered p) (Ordered q) (Ordered r) → pairOf o w wa wb low p q r .hi < 2 ^ w
 pair-short variable w wa wb low p q r h f u = pow-pos w
@@ -383,8 +432,10 @@ pair-short xor w wa wb low p q r h f u =
     let b = u .b (omega arith) in
     or-lt w (bitXor (p .lo) (q .lo)) (bitOr (freeOf p) (freeOf q))
     (xor-lt w (p .lo) (q .lo) (lo-lt a (f .0)) (lo-lt b (f .1)))
-    (or-lt w (freeOf p) (freeOf q) (free-lt w p a (f .0)) (free-lt w q b (f .1)))
-pair-short add w wa wb low p q r h f u = upTo-short w (lowest w p q) (p .lo + q .lo) (lowest-le w p q)
+    (free-in-lt w p q a b (f .0) (f .1))
+pair-short add w wa wb low p q r h f u =
+    or-lt w ((p .lo + q .lo) % 2 ^ w) (bitOr (freeIn p q) (unlike w p q)) (mod-lt (p .lo + q .lo) (pow-pos w))
+    (free-in-sum-lt w p q (u .a (omega arith)) (u .b (omega arith)) (f .0) (f .1))
 pair-short mul w wa wb low p q r h f u = upTo-short w (lowest w p q) (p .lo * q .lo) (lowest-le w p q)
 pair-short shl w wa wb low p q r h f u =
     either-short (fixed q) (pair (p .lo * 2 ^ q .lo % 2 ^ w) (p .hi * 2 ^ q .lo % 2 ^ w)) (anyOf w) (2 ^ w) (mod-lt (p .hi * 2 ^ q .lo) (pow-pos w)) (ones-lt w)

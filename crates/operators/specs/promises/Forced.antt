@@ -1,6 +1,6 @@
--- The definition of the fixed bits, held against the sentences of documents 01 and 02 (R-1, R-11): for not, and, xor, concat, extract, signed below and sign
--- extension exactly the bits that the operator forces are fixed; for the others each sentence is a theorem, but for below and division, whose definitions
--- are the sentences.
+-- The definition of the fixed bits, held against the sentences of documents 01 and 02 (R-1, R-9, R-11): for not, and, xor, add, concat, extract, signed
+-- below and sign extension exactly the bits that the operator forces are fixed; for the others each sentence is a theorem, but for below and division,
+-- whose definitions are the sentences.
 use mathlib.Core.Path.{_≡_, refl, sym, ap, ap₂, _∙_}
 use mathlib.Core.Bool.{Bool, true, false}
 use mathlib.Core.Logic.{_⊎_, inl, inr, ⊎-elim, _↔_}
@@ -12,37 +12,31 @@ use lib.Bits.{bitAnd, bitOr, bitXor, xor-self}
 use lib.Count.{trailingZeros, under}
 use lib.Pow.{pow-pos}
 use borrow.Author.Tests.{lt-ltb, le-ltb, eq-eqb, ne-eqb}
-use Rattle.words.specs.Agree.{Agrees}
-use Rattle.words.specs.laws.Agree.{bits-of-within, agrees-of-within, lo-within, within-hi, within-div, within-mod, within-join, agrees-lt}
+use Rattle.words.specs.laws.Agree.{bits-of-within, agrees-lt}
 use Rattle.words.specs.Bits.{bit}
-use Rattle.words.specs.laws.Bits.{bit-lt, bit-zero, bit-of-zero, bit-half, bit-and, bit-or, bit-xor, bit-cut, bit-cut-high, bit-high, bit-shr, bit-shl-low, bit-over-low, bit-over-high, ones-bit, xor-none, lt-or-ge}
+use Rattle.words.specs.laws.Bits.{bit-lt, bit-zero, bit-of-zero, bit-half, bit-and, bit-or, bit-xor, bit-cut, bit-cut-high, bit-high, bit-shr, bit-shl-low, bit-over-low, bit-over-high, ones-bit, bit-ext, xor-none, lt-or-ge}
 use Rattle.words.specs.laws.Less.{or-zero}
-use Rattle.words.specs.inner.Words.{over}
-use Rattle.words.specs.laws.Narrow.{over-div, over-mod}
 use Rattle.operators.specs.declared.fixed.Pair.{Pair}
 use Rattle.operators.specs.Table.{Kind, inv, conj, xor, add, concat, extract, slt, sext, shape}
 use Rattle.operators.specs.Meaning.{flag, signedLess, meaning, Fit}
-use Rattle.operators.specs.Fixed.{pair, freeOf, fixed, known, lowest, upTo, apart, told, eqPair, shlPair, lshrPair, itePair, signedLeast, signedMost, sltPair, ashrPair, sextPair, pairOf, either}
+use Rattle.operators.specs.Fixed.{pair, freeOf, fixed, known, lowest, upTo, FixedAt, SameForAll, SumOf, freeIn, unlike, sumPair, apart, told, eqPair, shlPair, lshrPair, itePair, signedLeast, signedMost, sltPair, ashrPair, sextPair, pairOf, either}
 use Rattle.operators.specs.inner.Ready.{Used, Ordered, Ternary, Agreeing}
 use Rattle.operators.specs.laws.Signed.{signed-order, ashr-kept, ashr-filled, extended-kept, extended-filled}
-use Rattle.operators.specs.laws.Sound.{least-lt, most-lt, from-least, upto-most, sound, used-to, lo-agrees, hi-agrees, lo-lt, known-lo, none-free, lowest-le, lowest-none, upTo-hi}
+use Rattle.operators.specs.laws.Sound.{least-lt, most-lt, from-least, upto-most, sound, used-to, lo-agrees, hi-agrees, lo-lt, known-lo, none-free, free-in-sum-lt, lowest-le, lowest-none, upTo-hi, pair-whole}
+use Rattle.operators.specs.laws.Sums.{xor-same, mixed-agrees, settled}
 
 -- "A bit is fixed where lo and hi agree."
 abbrev pub FixedIn : Pair → ℕ → Type 0
 FixedIn p j = bit j (p .lo) ≡ bit j (p .hi)
 
--- bit j is fixed at b
-pub record FixedAt (p : Pair) (j b : ℕ) : Type 0 where
-  pub low : bit j (p .lo) ≡ b
-  pub high : bit j (p .hi) ≡ b
-
 -- ---- "not, and, xor, concat, extract: a bit is fixed exactly if the operator forces it from the fixed bits at its positions, the operands taken as
--- independent"; so it is for signed below and sign extension
+-- independent"; so it is for signed below and sign extension, and of add by 02's R-9
 
 pub data Exactly : Kind → Type 0 where
   of-not : Exactly inv
   of-and : Exactly conj
   of-xor : Exactly xor
+  of-add : Exactly add
   of-concat : Exactly concat
   of-extract : Exactly extract
   of-slt : Exactly slt
@@ -60,13 +54,11 @@ fixed-forced o w wa wb low p q r f j b g x y z u =
     let s = sound o w wa wb low p q r x y z f u in
     le-antisymm (le-trans (s .under j) (le-of-eq (g .high))) (le-trans (le-of-eq (sym (g .low))) (s .over j))
 
--- of two values that agree, the high bits of one over the low bits of the other
-mixed-agrees : (k : ℕ) {lo hi a c : ℕ} → Agrees lo hi a → Agrees lo hi c → Agrees lo hi (over k a (c % 2 ^ k))
-mixed-agrees k {lo} {hi} {a} {c} f g =
-    let l : c % 2 ^ k < 2 ^ k = mod-lt c (pow-pos k) in
-    agrees-of-within
-    (within-join k lo (over k a (c % 2 ^ k)) (rw (over-div k a (c % 2 ^ k) l) (within-div k (lo-within f))) (rw (over-mod k a (c % 2 ^ k) l) (within-mod k (lo-within g))))
-    (within-join k (over k a (c % 2 ^ k)) hi (rw (over-div k a (c % 2 ^ k) l) (within-div k (within-hi f))) (rw (over-mod k a (c % 2 ^ k) l) (within-mod k (within-hi g))))
+known-fixed : (v f j b : ℕ) → bit j f ≡ 0 → bit j v ≡ b → FixedAt (known v f) j b
+known-fixed v f j b z e = record {
+  low = known-lo v f j ∙ omega (arith, bit-lt j v);
+  high = bit-or j v f ∙ omega arith;
+}
 
 least-agrees : (w : ℕ) (p : Pair) → Ordered p → Agreeing p (signedLeast w p)
 least-agrees w p o = mixed-agrees (w - 1) (hi-agrees o) (lo-agrees o)
@@ -84,7 +76,7 @@ module _ (w wa wb low : ℕ) (p q r : Pair) (j b : ℕ) where
       let g : bit j (bitOr (freeOf p) (freeOf q)) ≡ 0 =
       bit-or j (freeOf p) (freeOf q) ∙ ap₂ max (bit-xor j (p .lo) (p .hi) ∙ s .0) (bit-xor j (q .lo) (q .hi) ∙ s .1) in
       let v : bit j (bitXor (p .lo) (q .lo)) ≡ b = f (p .lo) (q .lo) (r .lo) (used-to lo-agrees lo-agrees lo-agrees u) in
-      known-fixed (bitXor (p .lo) (q .lo)) (bitOr (freeOf p) (freeOf q)) g v
+      known-fixed (bitXor (p .lo) (q .lo)) (bitOr (freeOf p) (freeOf q)) j b g v
     where
       at : (x y : ℕ) → Used 2 (Agreeing p x) (Agreeing q y) (Agreeing r (r .lo)) → (bit j x + bit j y) % 2 ≡ b
       at x y u = sym (bit-xor j x y) ∙ f x y (r .lo) u
@@ -93,11 +85,22 @@ module _ (w wa wb low : ℕ) (p q r : Pair) (j b : ℕ) where
           → ((a + a′) % 2 ≡ 0) × ((c + c′) % 2 ≡ 0)
       settled a a′ c c′ ha ha′ hc hc′ d e g = (omega arith, omega arith)
 
-      known-fixed : (v f : ℕ) → bit j f ≡ 0 → bit j v ≡ b → FixedAt (known v f) j b
-      known-fixed v f z e = record {
-        low = known-lo v f j ∙ omega (arith, bit-lt j v);
-        high = bit-or j v f ∙ omega arith;
-      }
+  -- add: below w no operand's bit can change, nor what is carried; from w on all is 0
+  sum-fixed : Used 2 (Ordered p) (Ordered q) (Ordered r) → (p .hi < 2 ^ w) × (q .hi < 2 ^ w) → SameForAll w p q j b → FixedAt (sumPair w p q) j b
+  sum-fixed u f same =
+      let o = u .a (omega arith) in
+      let n = u .b (omega arith) in
+      let s = bitOr (freeIn p q) (unlike w p q) in
+      let z : bit j s ≡ 0 = ⊎-elim (λ (h : j < w). settled w p q j b o n h same)
+      (λ (h : w ≤ j). bit-high j s w (free-in-sum-lt w p q o n (f .0) (f .1)) h) (lt-or-ge j w) in
+      known-fixed ((p .lo + q .lo) % 2 ^ w) s j b z (same (p .lo) (q .lo) (lo-agrees o) (lo-agrees n))
+
+  -- what add forces is what is the same for all
+  same-forced : SameForAll w p q j b ↔ Forced add w wa wb low p q r j b
+  same-forced = (
+    λ s x y z u. s x y (u .a (omega arith)) (u .b (omega arith)),
+    λ f x y a c. f x y (r .lo) (record { a = λ _. a; b = λ _. c; c = λ h. absurd (omega arith) }),
+  )
 
   -- signed below: the two tests are values of the operator, at the signed extremes
   slt-fixed : Used 2 (Ordered p) (Ordered q) (Ordered r) → Forced slt w wa wb low p q r j b → FixedAt (sltPair wa p q) j b
@@ -112,26 +115,86 @@ module _ (w wa wb low : ℕ) (p q r : Pair) (j b : ℕ) where
       go false false d e = record { low = d; high = d }
 
   -- the others: lo and hi are themselves values of the operator, at the operands' los and his
-  forced-fixed : (o : Kind) → Exactly o → Used (shape o .operands) (Ordered p) (Ordered q) (Ordered r) → Forced o w wa wb low p q r j b
-      → FixedAt (pairOf o w wa wb low p q r) j b
-  forced-fixed o k u f = go k u (f (p .lo) (q .lo) (r .lo) (used-to lo-agrees lo-agrees lo-agrees u)) (f (p .hi) (q .hi) (r .hi) (used-to hi-agrees hi-agrees hi-agrees u)) f
+  forced-fixed : (o : Kind) → Exactly o → Fit (shape o .rule) w wa wb low (p .hi) (q .hi) (r .hi) → Used (shape o .operands) (Ordered p) (Ordered q) (Ordered r)
+      → Forced o w wa wb low p q r j b → FixedAt (pairOf o w wa wb low p q r) j b
+  forced-fixed o k t u f = go k t u (f (p .lo) (q .lo) (r .lo) (used-to lo-agrees lo-agrees lo-agrees u)) (f (p .hi) (q .hi) (r .hi) (used-to hi-agrees hi-agrees hi-agrees u)) f
     where
-      go : {o : Kind} → Exactly o → Used (shape o .operands) (Ordered p) (Ordered q) (Ordered r)
+      go : {o : Kind} → Exactly o → Fit (shape o .rule) w wa wb low (p .hi) (q .hi) (r .hi) → Used (shape o .operands) (Ordered p) (Ordered q) (Ordered r)
           → bit j (meaning o w wa wb low (p .lo) (q .lo) (r .lo)) ≡ b → bit j (meaning o w wa wb low (p .hi) (q .hi) (r .hi)) ≡ b
           → Forced o w wa wb low p q r j b → FixedAt (pairOf o w wa wb low p q r) j b
-      go of-not u d e f = record { low = e; high = d }
-      go of-and u d e f = record { low = d; high = e }
-      go of-xor u d e f = xor-fixed u f
-      go of-concat u d e f = record { low = d; high = e }
-      go of-extract u d e f = record { low = d; high = e }
-      go of-slt u d e f = slt-fixed u f
-      go of-sext u d e f = record { low = d; high = e }
+      go of-not t u d e f = record { low = e; high = d }
+      go of-and t u d e f = record { low = d; high = e }
+      go of-xor t u d e f = xor-fixed u f
+      go of-add t u d e f = sum-fixed u t (same-forced .1 f)
+      go of-concat t u d e f = record { low = d; high = e }
+      go of-extract t u d e f = record { low = d; high = e }
+      go of-slt t u d e f = slt-fixed u f
+      go of-sext t u d e f = record { low = d; high = e }
 
 pub forced : (o : Kind) → Exactly o → (w wa wb low : ℕ) (p q r : Pair) → Fit (shape o .rule) w wa wb low (p .hi) (q .hi) (r .hi)
     → Used (shape o .operands) (Ordered p) (Ordered q) (Ordered r) → (j b : ℕ) → FixedAt (pairOf o w wa wb low p q r) j b ↔ Forced o w wa wb low p q r j b
-forced o k w wa wb low p q r f u j b = (fixed-forced o w wa wb low p q r f j b, forced-fixed w wa wb low p q r j b o k u)
+forced o k w wa wb low p q r f u j b = (fixed-forced o w wa wb low p q r f j b, forced-fixed w wa wb low p q r j b o k f u)
 
--- ---- "add, mul: let k be the lowest position free in either operand (w if none). The low k bits are fixed, as computed; the others are free."
+-- ---- add (02, R-9): "a result bit is fixed exactly if it is the same for every pair of agreeing operand values, the two operands taken as independent"
+
+-- ternary words whose bits are fixed alike are the same
+fixed-alike : (s t : Pair) → Ordered s → Ordered t → ((j b : ℕ) → FixedAt s j b → FixedAt t j b) → ((j b : ℕ) → FixedAt t j b → FixedAt s j b) → s ≡ t
+fixed-alike s t o n f g = ap₂ pair (bit-ext (s .lo) (t .lo) (λ j. alike j .0)) (bit-ext (s .hi) (t .hi) (λ j. alike j .1))
+  where
+    fixed-of : (p : Pair) (j : ℕ) → bit j (p .hi) ≤ bit j (p .lo) → Ordered p → FixedAt p j (bit j (p .lo))
+    fixed-of p j l o = record { low = refl; high = le-antisymm l (bits-of-within o j) }
+
+    both-free : (l h l′ h′ : ℕ) → l < h → h < 2 → l′ < h′ → h′ < 2 → (l ≡ l′) × (h ≡ h′)
+    both-free l h l′ h′ a b c d = (omega arith, omega arith)
+
+    one-free : (l h v : ℕ) → l < h → l ≡ v → h ≡ v → ⊥
+    one-free l h v a b c = omega arith
+
+    alike : (j : ℕ) → (bit j (s .lo) ≡ bit j (t .lo)) × (bit j (s .hi) ≡ bit j (t .hi))
+    alike j = go (lt-or-ge (bit j (s .lo)) (bit j (s .hi))) (lt-or-ge (bit j (t .lo)) (bit j (t .hi)))
+      where
+        go : (bit j (s .lo) < bit j (s .hi)) ⊎ (bit j (s .hi) ≤ bit j (s .lo)) → (bit j (t .lo) < bit j (t .hi)) ⊎ (bit j (t .hi) ≤ bit j (t .lo))
+            → (bit j (s .lo) ≡ bit j (t .lo)) × (bit j (s .hi) ≡ bit j (t .hi))
+        go (inl a) (inl c) = both-free (bit j (s .lo)) (bit j (s .hi)) (bit j (t .lo)) (bit j (t .hi)) a (bit-lt j (s .hi)) c (bit-lt j (t .hi))
+        go (inl a) (inr c) = let e = g j (bit j (t .lo)) (fixed-of t j c n) in absurd (one-free (bit j (s .lo)) (bit j (s .hi)) (bit j (t .lo)) a (e .low) (e .high))
+        go (inr a) c = let e = f j (bit j (s .lo)) (fixed-of s j a o) in (sym (e .low), fixed-of s j a o .high ∙ sym (e .high))
+
+-- the pair of a sum is the one that the sentence describes, and there is no other
+pub sum-exactly : (w wa wb low : ℕ) (p q r s : Pair) → 1 ≤ w → Ternary w p → Ternary w q → (s ≡ pairOf add w wa wb low p q r) ↔ SumOf w p q s
+sum-exactly w wa wb low p q r s h tp tq = (to, back)
+  where
+    fits : (p .hi < 2 ^ w) × (q .hi < 2 ^ w)
+    fits = (tp .short, tq .short)
+
+    ordered : Used 2 (Ordered p) (Ordered q) (Ordered r)
+    ordered = record { a = λ _. tp .ordered; b = λ _. tq .ordered; c = λ n. absurd (omega arith) }
+
+    exactly : (j b : ℕ) → FixedAt (sumPair w p q) j b ↔ SameForAll w p q j b
+    exactly j b =
+        let e = forced add of-add w wa wb low p q r fits ordered j b in
+        let f = same-forced w wa wb low p q r j b in
+        (λ g. f .1 (e .0 g), λ g. e .1 (f .0 g))
+
+    whole : Ternary w (sumPair w p q)
+    whole = pair-whole add w wa wb low p q r h fits ordered
+
+    to : s ≡ sumPair w p q → SumOf w p q s
+    to e = rw e (record { ternary = whole .ordered; exactly = exactly })
+
+    back : SumOf w p q s → s ≡ sumPair w p q
+    back o =
+        fixed-alike s (sumPair w p q) (o .ternary) (whole .ordered)
+        (λ j b f. exactly j b .1 (o .exactly j b .0 f)) (λ j b f. o .exactly j b .1 (exactly j b .0 f))
+
+-- "4 bits, x with low bits 01 and top two free, plus 3: fixed low bits 00, top two free."
+pub plus-three : pairOf add 4 4 4 0 (pair 1 13) (pair 3 3) (pair 0 0) ≡ pair 0 12
+plus-three = refl
+
+-- and where what was fixed above the lowest free bit is kept: 4 bits, x with top bits 00, then one free and a 1, plus 4: 01, free, 1
+pub plus-four : pairOf add 4 4 4 0 (pair 1 3) (pair 4 4) (pair 0 0) ≡ pair 5 7
+plus-four = refl
+
+-- ---- "mul: let k be the lowest position free in either operand (w if none). The low k bits are fixed, as computed; the others are free."
 
 free-bit : (p : Pair) (j : ℕ) → bit j (freeOf p) ≡ 0 → FixedIn p j
 free-bit p j e = same (bit j (p .lo)) (bit j (p .hi)) (bit-lt j (p .lo)) (bit-lt j (p .hi)) (sym (bit-xor j (p .lo) (p .hi)) ∙ e)
@@ -140,10 +203,7 @@ free-bit p j e = same (bit j (p .lo)) (bit j (p .hi)) (bit-lt j (p .lo)) (bit-lt
     same a b h k e = omega arith
 
 fixed-bit : (p : Pair) (j : ℕ) → FixedIn p j → bit j (freeOf p) ≡ 0
-fixed-bit p j e = bit-xor j (p .lo) (p .hi) ∙ twice (bit j (p .lo)) (bit j (p .hi)) e
-  where
-    twice : (a b : ℕ) → a ≡ b → (a + b) % 2 ≡ 0
-    twice a b e = omega arith
+fixed-bit p j e = xor-same j (p .lo) (p .hi) e
 
 -- the bit at the count of zeros is set, where the count ends before the digits do
 trailing-set : (k n : ℕ) → trailingZeros k n < k → bit (trailingZeros k n) n ≡ 1
@@ -190,11 +250,6 @@ upTo-free w k v j h l m f = zero-one (bit j (upTo w k v .lo)) (bit-cut-high j v 
     high =
         let e : k + (j - k) ≡ j = omega arith in
         ap₂ bit (sym e) (upTo-hi w k v h) ∙ bit-over-high (j - k) (2 ^ (w - k) - 1) (v % 2 ^ k) k (mod-lt v (pow-pos k)) ∙ ones-bit (j - k) (w - k) (omega arith)
-
--- "4 bits, x with low bits 01 and top two free, plus 3: fixed low bits 00, top two free."
-pub plus-three : pairOf add 4 4 4 0 (pair 1 13) (pair 3 3) (pair 0 0) ≡ pair 0 12
-unfolding trailingZeros
-plus-three = refl
 
 -- ---- "shl, lshr: with a fully fixed amount, the shifted pair (filled places fixed at 0)"
 

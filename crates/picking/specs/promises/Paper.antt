@@ -7,7 +7,6 @@ use Prim.Native.Nat.{ℕ, zero, suc, _-_, _*_, _%_, _^_, _≤_, _<_}
 use native.Mathlib.Nat.{le-of-eq, mod-eq-of-lt}
 use native.Mathlib.Omega.{arith}
 use lib.Dec.{T, eqb, ltb, eqb→eq, ltb→lt}
-use lib.Count.{trailingZeros}
 use lib.Ieee.Fits.{and-l, and-r}
 use borrow.Author.Tests.{ltb-true}
 use Rattle.words.specs.Bits.{bit}
@@ -270,7 +269,6 @@ s-may E = E (record { a = 0; b = 8; c = 0 }) (λ j q. agrees j (q .below) (q .ap
     agrees (suc (suc j)) l f = absurd (omega arith)
 
 sum-pair : (r : Pair) → pairOf add 4 4 4 0 (pair 1 13) (pair 3 3) r ≡ pair 0 12
-unfolding trailingZeros
 sum-pair r = refl
 
 -- signed words, whose signs are bits

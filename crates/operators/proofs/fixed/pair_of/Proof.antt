@@ -1,7 +1,7 @@
 -- Each arm of the match is the pair of its kind; what the parts ask comes from the width rule at hi, and lo is no greater.
 use borrow.Author.Needs.{needs}
 use mathlib.Core.Path.{ap₂}
-use Prim.Native.Nat.{_+_, _*_}
+use Prim.Native.Nat.{_*_}
 use native.Mathlib.Nat.{le-of-lt}
 use native.Mathlib.Omega.{arith}
 use Rattle.operators.specs.Fixed.{pair}
@@ -23,17 +23,14 @@ flip-requires-2 c κs =
 xor-pair-requires : tie.Need-xor-pair-requires
 xor-pair-requires c κs = search needs
 
-wrapping-add-u64-requires : tie.Need-wrapping-add-u64-requires
-wrapping-add-u64-requires c κs = search needs
-
-low-pair-requires : tie.Need-low-pair-requires
-low-pair-requires c κs = search needs
+sum-pair-requires : tie.Need-sum-pair-requires
+sum-pair-requires c κs = search needs
 
 wrapping-mul-requires : tie.Need-wrapping-mul-requires
 wrapping-mul-requires c κs = search needs
 
-low-pair-requires-2 : tie.Need-low-pair-requires-2
-low-pair-requires-2 c κs = search needs
+low-pair-requires : tie.Need-low-pair-requires
+low-pair-requires c κs = search needs
 
 left-pair-requires : tie.Need-left-pair-requires
 left-pair-requires c κs = search needs
@@ -97,16 +94,13 @@ returns-3 : tie.Need-returns-3
 returns-3 c = rw (c .before .match .keys3) (c .xor-pair .ensures)
 
 returns-4 : tie.Need-returns-4
-returns-4 c =
-    let s = c .before .before .before in
-    rw (c .before .before .match .keys4)
-    (low-is (s .args .op .width) (s .args .p) (s .args .q) _ _ (s .args .p .lo + s .args .q .lo) (c .low-pair .ensures) (c .before .wrapping-add-u64 .ensures) (s .pre .ready .wide))
+returns-4 c = rw (c .before .match .keys4) (c .sum-pair .ensures)
 
 returns-5 : tie.Need-returns-5
 returns-5 c =
     let s = c .before .before .before in
     rw (c .before .before .match .keys5)
-    (low-is (s .args .op .width) (s .args .p) (s .args .q) _ _ (s .args .p .lo * s .args .q .lo) (c .low-pair2 .ensures) (c .before .wrapping-mul .ensures) (s .pre .ready .wide))
+    (low-is (s .args .op .width) (s .args .p) (s .args .q) _ _ (s .args .p .lo * s .args .q .lo) (c .low-pair .ensures) (c .before .wrapping-mul .ensures) (s .pre .ready .wide))
 
 returns-6 : tie.Need-returns-6
 returns-6 c = rw (c .before .match .keys6) (c .left-pair .ensures)
@@ -153,10 +147,9 @@ pair-of-spec =
     flip-requires
     flip-requires-2
     xor-pair-requires
-    wrapping-add-u64-requires
-    low-pair-requires
+    sum-pair-requires
     wrapping-mul-requires
-    low-pair-requires-2
+    low-pair-requires
     left-pair-requires
     right-pair-requires
     eq-pair-requires
