@@ -5,6 +5,7 @@
 //! | `subject` | the library's calls, answered by the proved library or by plain Rust          |
 //! | `narrow`  | picks and essential tests over all cases of few bits, against the definitions |
 //! | `wide`    | the same at 33 to 64 bits at random, with witnesses and neighbours            |
+//! | `fixed`   | fixed bits of single nodes, as the verdict closed shows them                  |
 //! | `refused` | picks whose arguments are not those of a node                                 |
 //! | `runs`    | checks and whole runs, with every verdict and refusal counted                 |
 //! | `more`    | pairs of runs, of which the second is lent a greater budget and more words    |
@@ -14,6 +15,7 @@
 //!
 //! A difference is an `Err` with a text that shows it.
 
+pub mod fixed;
 pub mod more;
 pub mod narrow;
 pub mod need;

@@ -3,7 +3,7 @@
 use clap::{Parser, ValueEnum};
 use compare::narrow::{self, Extent};
 use compare::runs::{self, Counts, Difference};
-use compare::{need, program, refused, wide, Library, Plain, Subject};
+use compare::{fixed, need, program, refused, wide, Library, Plain, Subject};
 use model::{Kind, Verdict};
 use std::path::{Path, PathBuf};
 use std::process::ExitCode;
@@ -33,10 +33,10 @@ enum Side {
 
 #[derive(Parser)]
 enum What {
-    /// Picks and essential tests of every kind and position
+    /// Picks, essential tests and fixed bits of every kind and position
     ///
     /// At 1 to 4 bits over all operands, values, targets and proposals, against the definitions; and at
-    /// random at 33 to 64 bits.
+    /// random at 33 to 64 bits. Fixed bits over all ternary words of 1 to 3 bits, those of sums to 5.
     Picks {
         /// Of an operator with more spots than this, so many by chance
         #[arg(long, default_value_t = 262_144)]
@@ -156,8 +156,25 @@ fn picks(subject: &impl Subject, seed: u64, spots: u64, cases: u64) -> Result<()
         found.narrowed,
         seconds(start)
     );
+    fixed_bits("at few bits", || fixed::compare_narrow(subject))?;
+    fixed_bits("at 33 to 64 bits", || fixed::compare_wide(subject, cases, seed))?;
     let calls = refused::compare(subject, 500, seed).map_err(|d| format!("difference: {d}"))?;
     println!("refused: {calls} calls, none let through");
+    Ok(())
+}
+
+fn fixed_bits(at: &str, compare: impl Fn() -> Result<fixed::Count, String>) -> Result<(), String> {
+    let start = Instant::now();
+    let count = compare().map_err(|d| format!("difference: {d}"))?;
+    println!(
+        "fixed bits {at}: {} nodes, {} of them sums ({} with a bit fixed above the lowest free one), {} runs, {} closed, no difference, {}",
+        count.nodes,
+        count.sums,
+        count.sums_fixed_above,
+        count.runs,
+        count.closed,
+        seconds(start)
+    );
     Ok(())
 }
 

@@ -3,9 +3,9 @@
 
 use compare::narrow::{self, Extent};
 use compare::subject::{Asked, Model};
-use compare::{need, runs, wide, Subject};
+use compare::{fixed, need, runs, wide, Subject};
 use model::problem::{HEADER, NODE};
-use model::{Kind, Set};
+use model::{pairs, Kind, Pair, Set};
 
 /// The model with some calls changed.
 #[derive(Clone, Copy, PartialEq)]
@@ -25,6 +25,7 @@ enum Wrong {
     MeasuresOneTooFew,
     StartsWithTheLastWord,
     SharesTheBudgetOut,
+    ThrowsSumsAway,
     ForgetsToGoRound,
     PassesTheProposalOver,
     JudgesEssentialByWidth,
@@ -72,6 +73,7 @@ impl Subject for Wrong {
             CountsAfterTheFirstMove if out[0] == 1 => out[1] = budget.into(),
             InventsAStep if refusal == 0 => (out[2], out[3]) = (out[2] + 1, out[3] + 2),
             KeepsOldCounts if refusal != 0 => out[1] = 1,
+            ThrowsSumsAway if out[0] == 3 && !closes_by_the_low_bits_of_sums(problem) => out[0] = 1,
             _ => {}
         }
         refusal
@@ -153,6 +155,24 @@ impl Subject for Wrong {
     }
 }
 
+/// Whether a root is fixed at 0 where of a sum only the bits below the lowest free one are fixed.
+fn closes_by_the_low_bits_of_sums(problem: &[u8]) -> bool {
+    let problem = model::problem::read(problem).expect("an accepted problem");
+    let mut found: Vec<Pair> = Vec::new();
+    for (id, node) in problem.nodes.iter().enumerate() {
+        let mut pair = match node.kind {
+            Kind::Variable | Kind::Constant => node.pair,
+            _ => pairs::result(&problem.operator(id), problem.at_operands(id, &found)),
+        };
+        if node.kind == Kind::Add && pair.open() != 0 {
+            let low = model::ones(pair.open().trailing_zeros());
+            pair = Pair { lo: pair.lo & low, hi: pair.lo & low | model::ones(node.width) & !low };
+        }
+        found.push(pair);
+    }
+    problem.roots.iter().any(|&root| found[root as usize] == Pair::fixed(0))
+}
+
 /// Takes the other operands' fixed bits away.
 fn free_the_others(asked: &mut Asked) {
     for at in [1, 2].map(|further| (asked.position as usize + further) % 3) {
@@ -198,6 +218,12 @@ fn runs_that_lose_what_they_had_are_caught() {
     for wrong in [StartsWithTheLastWord, SharesTheBudgetOut] {
         assert!(runs::compare_more(&wrong, 1, 2000).is_err());
     }
+}
+
+#[test]
+fn sums_that_tell_too_little_are_caught_at_few_bits_and_at_many() {
+    assert!(fixed::compare_narrow(&ThrowsSumsAway).is_err());
+    assert!(fixed::compare_wide(&ThrowsSumsAway, 2000, 1).is_err());
 }
 
 #[test]

@@ -34,9 +34,12 @@ pub fn result(operator: &Operator, [a, b, c]: [Pair; 3]) -> Pair {
             Pair { lo: join(a.lo, b.lo), hi: join(a.hi, b.hi) }
         }
         Kind::Extract => a.part(operator.low, w),
+        // Document 02, R-9: "a result bit is fixed exactly if it is the same for every pair of agreeing
+        // operand values, the two operands taken as independent"
+        Kind::Add => sum(w, a, b),
         // "let k be the lowest position free in either operand (w if none). The low k bits are
         // fixed, as computed; the others are free."
-        Kind::Add | Kind::Mul => {
+        Kind::Mul => {
             let k = (a.open() | b.open()).trailing_zeros().min(w);
             let computed = operator.apply([a.lo, b.lo, 0]) & ones(k);
             Pair { lo: computed, hi: computed | all & !ones(k) }
@@ -75,6 +78,28 @@ pub fn result(operator: &Operator, [a, b, c]: [Pair; 3]) -> Pair {
         Kind::If if a == Pair::fixed(0) => c,
         Kind::If => Pair { lo: b.lo & c.lo, hi: b.hi | c.hi },
     }
+}
+
+/// The bits of a sum that are the same for all operands that agree: added as by hand, bit by bit from the
+/// low end, with every carry that the lower bits can bring. These do not depend on the bits above them.
+fn sum(w: u32, a: Pair, b: Pair) -> Pair {
+    let mut found = Pair::default();
+    let mut carries = vec![0];
+    for i in 0..w {
+        let mut totals = Vec::new();
+        for x in a.part(i, 1).members() {
+            for y in b.part(i, 1).members() {
+                totals.extend(carries.iter().map(|carry| x + y + carry));
+            }
+        }
+        let is_odd = |total: &u64| total % 2 == 1;
+        found.lo |= u64::from(totals.iter().all(is_odd)) << i;
+        found.hi |= u64::from(totals.iter().any(is_odd)) << i;
+        carries = totals.iter().map(|total| total / 2).collect();
+        carries.sort();
+        carries.dedup();
+    }
+    found
 }
 
 /// The least of the signed values that agree: with the top bit where it may be 1, and no other free one.
@@ -141,12 +166,25 @@ mod tests {
         }
     }
 
+    #[test]
+    fn sums_fix_exactly_the_forced_bits_to_five_bits() {
+        for width in 1..=5 {
+            let operator = Operator { kind: Kind::Add, width, widths: [width, width, 0], low: 0 };
+            for a in all_pairs(width) {
+                for b in all_pairs(width) {
+                    let pairs = [a, b, Pair::default()];
+                    assert_eq!(result(&operator, pairs), forced(&operator, pairs), "{pairs:?}");
+                }
+            }
+        }
+    }
+
     /// The bitwise kinds, and those whose rules come to the same.
     #[test]
     fn these_kinds_fix_exactly_the_forced_bits() {
         for_every_operator_and_pairs(|operator, pairs| {
             let exact = match operator.kind {
-                Kind::Not | Kind::And | Kind::Xor | Kind::Concat | Kind::Extract => true,
+                Kind::Not | Kind::And | Kind::Xor | Kind::Add | Kind::Concat | Kind::Extract => true,
                 Kind::Eq | Kind::Below | Kind::SignedBelow | Kind::SignExtend => true,
                 Kind::Shl | Kind::Lshr | Kind::Ashr => pairs[1].is_fixed(),
                 _ => false,
@@ -178,7 +216,7 @@ mod tests {
             for i in 0..w {
                 let fixed = fixed_at(found, i);
                 match operator.kind {
-                    Kind::Add | Kind::Mul => {
+                    Kind::Mul => {
                         let all_below = (0..=i).all(|j| fixed_at(a, j) && fixed_at(b, j));
                         assert_eq!(fixed, all_below);
                     }

@@ -205,6 +205,40 @@ fn the_other_side_has_fixed_bits_too() {
     assert_eq!(members(&joined, Set::Consistent, 0, 0x3b), []);
 }
 
+/// Document 02, R-9: what is fixed above the lowest free bit of a sum. The worked sum, above, is as it was.
+#[test]
+fn sums_tell_more() {
+    let sum = |a: Pair, b: Pair| {
+        let width = 4;
+        let operator = Operator { kind: Kind::Add, width, widths: [width, width, 0], low: 0 };
+        pairs::result(&operator, [a, b, Pair::default()])
+    };
+    // 000* + 000* is 00**; 000* + 0010 is 001*; 000* + 0011 may carry up to bit 2.
+    assert_eq!(sum(Pair { lo: 0, hi: 1 }, Pair { lo: 0, hi: 1 }), Pair { lo: 0, hi: 3 });
+    assert_eq!(sum(Pair { lo: 0, hi: 1 }, Pair::fixed(2)), Pair { lo: 2, hi: 3 });
+    assert_eq!(sum(Pair { lo: 0, hi: 1 }, Pair::fixed(3)), Pair { lo: 0, hi: 7 });
+    // 10*1 + 11*1: the carry out of bit 0 is sure, that into bit 2 is not.
+    assert_eq!(sum(Pair { lo: 9, hi: 11 }, Pair { lo: 13, hi: 15 }), Pair { lo: 0, hi: 14 });
+}
+
+/// "verdict closed may come where a search was spent": of two counters below 4 the sum is below 8.
+#[test]
+fn a_sum_closes_a_run() {
+    let counters = Problem {
+        nodes: vec![
+            variable(8, Pair { lo: 0, hi: 3 }),
+            variable(8, Pair { lo: 0, hi: 3 }),
+            node(Kind::Add, 8, [0, 1, 0]),
+            constant(8, 8),
+            node(Kind::Eq, 1, [2, 3, 0]),
+        ],
+        roots: vec![4],
+    };
+    let mut values = [3, 2, 0, 0, 0];
+    let answer = model::run(&counters.bytes(), &mut values, &[0; 10], 9);
+    assert_eq!((answer.outcome, values), (Outcome::Settled(Verdict::Closed), [3, 2, 5, 8, 0]));
+}
+
 /// "Where the operands' pairs leave no value, the step is blocked": neither branch can be 1.
 #[test]
 fn a_step_is_blocked_where_no_branch_agrees() {

@@ -92,14 +92,18 @@ fn pair(nodes: &[Node], node: &Node, pairs: &Pairs) -> (u64, u64) {
             let value = lo_of(0) ^ lo_of(1);
             (value & !open, value | open)
         }
-        ADD | MUL => {
+        ADD => {
+            // A carry grows with the operands: least and most are those of the two sums.
+            let least = lo_of(0).wrapping_add(lo_of(1));
+            let most = hi_of(0).wrapping_add(hi_of(1));
+            let carries = least ^ lo_of(0) ^ lo_of(1) ^ most ^ hi_of(0) ^ hi_of(1);
+            let open = (lo_of(0) ^ hi_of(0) | lo_of(1) ^ hi_of(1) | carries) & all;
+            (least & all & !open, least & all | open)
+        }
+        MUL => {
             let open = lo_of(0) ^ hi_of(0) | lo_of(1) ^ hi_of(1);
             let fixed = low_bits(open.trailing_zeros()) & all;
-            let value = if kind(node) == ADD {
-                lo_of(0).wrapping_add(lo_of(1))
-            } else {
-                lo_of(0).wrapping_mul(lo_of(1))
-            };
+            let value = lo_of(0).wrapping_mul(lo_of(1));
             (value & fixed, value & fixed | all & !fixed)
         }
         SHL | LSHR | ASHR if lo_of(1) != hi_of(1) => (0, all),
