@@ -3,6 +3,7 @@
 mod growth;
 mod instructions;
 mod measure;
+mod moves;
 mod picks;
 mod plot;
 mod runs;
@@ -36,6 +37,14 @@ enum Line {
     Instructions,
     /// Moves to a model by the share of words e that ask for the inverse
     Share,
+    /// Models found and moves to them, by how proposals are drawn
+    Moves {
+        /// Starts and tapes for each family
+        #[arg(long, default_value_t = 100)]
+        tapes: u64,
+        #[arg(long, default_value_t = 3000)]
+        budget: u16,
+    },
     /// Time to a model beside z3's default and its local search
     Solve {
         /// The most that each may take
@@ -73,6 +82,7 @@ fn measure(line: &Line) -> Result<(), String> {
         Line::Growth { rounds, svg } => growth::table(rounds.rounds, svg.as_deref())?,
         Line::Instructions => instructions::table()?,
         Line::Share => share::table(),
+        Line::Moves { tapes, budget } => moves::table(*tapes, *budget),
         Line::Solve { seconds } => solve::table(*seconds)?,
         Line::Work { side, family, times } => instructions::work(side, family, *times)?,
     }

@@ -2,7 +2,7 @@
 
 use generate::families::{deep, frame, products, start};
 use generate::solved::Solved;
-use generate::tape::{drawn, Drawn};
+use generate::tape::{drawn, Drawn, Manner, Proposals};
 use generate::Rng;
 use model::run::Search;
 use model::{Outcome, Verdict};
@@ -31,8 +31,9 @@ pub fn table() {
             for seed in 0..RUNS {
                 let values = start(seed, &solved);
                 let search = Search::accept(&solved.problem.bytes(), &values).expect("a start that agrees");
-                let (_, answer) =
-                    drawn(&search, &values, BUDGET, Drawn::new(Rng::words(seed), share, usize::MAX));
+                let manner = Manner { inverse: share, proposals: Proposals::Uniform };
+                let words = Drawn::new(Rng::words(seed), manner, usize::MAX);
+                let (_, answer) = drawn(&search, &values, BUDGET, words);
                 found += u64::from(answer.outcome == Outcome::Settled(Verdict::Model));
                 moves += answer.moves;
             }

@@ -164,6 +164,60 @@ fn link(rng: &mut Rng, b: &mut Builder, last: u16, other: u16) -> u16 {
     }
 }
 
+/// Lap counters: `count` of them, of 32 bits of which the low 6 are open and the others fixed at 0, and their
+/// running total. Given are the order of neighbours, a bound of the total at every fourth, and the whole.
+pub fn laps(seed: u64, count: usize) -> Solved {
+    const WIDTH: u32 = 32;
+    let rng = &mut Rng::new(seed);
+    let mut draft = Draft::default();
+    let laps: Vec<u16> = (0..count).map(|_| draft.variable(WIDTH, rng.word() & 63, 63)).collect();
+    for pair in laps.windows(2) {
+        let [first, second] = [pair[0], pair[1]].map(|id| draft.value(id));
+        let order = if first < second { [pair[0], pair[1]] } else { [pair[1], pair[0]] };
+        if first != second {
+            let below = draft.builder.node(Kind::Below, &order);
+            draft.builder.root(below);
+        }
+    }
+    let mut total = laps[0];
+    for (number, &lap) in laps.iter().enumerate().skip(1) {
+        total = draft.builder.node(Kind::Add, &[total, lap]);
+        if number % 4 == 0 {
+            let bound = draft.value(total) + rng.between(1, 4) as u64;
+            let bound = draft.builder.constant(WIDTH, bound);
+            let below = draft.builder.node(Kind::Below, &[total, bound]);
+            draft.builder.root(below);
+        }
+    }
+    let value = draft.value(total);
+    draft.builder.root_equals(total, value);
+    draft.finish()
+}
+
+/// A counter of 32 bits over `ticks` ticks, as a bench unrolls it: a tick adds its enable bit, and ten is
+/// followed by 0. It starts below 8, its other bits fixed at 0. Given are its values at every fourth tick.
+pub fn counter(seed: u64, ticks: usize) -> Solved {
+    const WIDTH: u32 = 32;
+    let rng = &mut Rng::new(seed);
+    let mut draft = Draft::default();
+    let mut count = draft.variable(WIDTH, rng.word() & 7, 7);
+    let (zero, ten) = (draft.builder.constant(WIDTH, 0), draft.builder.constant(WIDTH, 10));
+    let above = draft.builder.constant(WIDTH - 1, 0);
+    for tick in 1..=ticks {
+        let enable = draft.variable(1, rng.word() & 1, 1);
+        let b = &mut draft.builder;
+        let step = b.node(Kind::Concat, &[above, enable]);
+        let sum = b.node(Kind::Add, &[count, step]);
+        let full = b.node(Kind::Eq, &[sum, ten]);
+        count = b.node(Kind::If, &[full, zero, sum]);
+        if tick % 4 == 0 || tick == ticks {
+            let value = draft.value(count);
+            draft.builder.root_equals(count, value);
+        }
+    }
+    draft.finish()
+}
+
 /// A problem of the family of random ones with a solution: every kind and width.
 pub fn mixed(seed: u64, size: usize) -> Solved {
     solved::solved(&mut Rng::new(seed), size)
@@ -181,7 +235,10 @@ mod tests {
 
     #[test]
     fn every_family_is_accepted_and_solved() {
-        let sized = |size| [frame(1, 8 * size), products(2, size, 32), mixed(4, 8 * size)];
+        let sized = |size| {
+            let of_all = [frame(1, 8 * size), products(2, size, 32), mixed(4, 8 * size)];
+            of_all.into_iter().chain([laps(5, 4 * size), counter(6, 4 * size)])
+        };
         let deep = [16, 64, 256, 1024].map(|size| deep(3, size));
         for solved in [1, 4].into_iter().flat_map(sized).chain(deep) {
             assert_eq!(read(&solved.problem.bytes()).as_ref(), Ok(&solved.problem));

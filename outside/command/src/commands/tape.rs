@@ -3,7 +3,7 @@
 use crate::fault::Fault;
 use crate::files::write::{self, Output};
 use crate::problem::accepted;
-use generate::tape::{drawn, Drawn};
+use generate::tape::{drawn, Drawn, Manner, Proposals};
 use model::files::{bytes_of, tape_file};
 use model::run::Search;
 use model::{Kind, Problem};
@@ -58,7 +58,8 @@ pub fn run(args: &Args) -> Result<ExitCode, Fault> {
     let search = Search::accept(&problem.bytes, &start).map_err(|refusal| {
         Fault::at(&args.problem, format!("the model refuses it: {} at {}", refusal.number, refusal.place))
     })?;
-    let words = Drawn::new(|| chance.next_u64(), args.inverse.into(), length);
+    let manner = Manner { inverse: args.inverse.into(), proposals: Proposals::Uniform };
+    let words = Drawn::new(|| chance.next_u64(), manner, length);
     let (mut tape, _) = drawn(&search, &start, args.budget, words);
     tape.resize_with(length, || chance.next_u64());
     let outputs = [
