@@ -40,7 +40,7 @@ enum Line {
     /// Models found and moves to them, by how proposals are drawn
     Moves {
         /// Starts and tapes for each family
-        #[arg(long, default_value_t = 100)]
+        #[arg(long, default_value_t = 200)]
         tapes: u64,
         #[arg(long, default_value_t = 3000)]
         budget: u16,

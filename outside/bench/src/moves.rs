@@ -12,9 +12,6 @@ use generate::Rng;
 use model::calls::RUN_OUT;
 use model::Verdict;
 
-/// The share of words e that ask for the inverse set.
-const INVERSE: u64 = 95;
-
 /// So many problems of each family, in turn.
 const PROBLEMS: u64 = 20;
 
@@ -50,7 +47,7 @@ pub fn table(tapes: u64, budget: u16) {
     for (name, family) in FAMILIES {
         let problems: Vec<Solved> = (0..PROBLEMS).map(family).collect();
         let cells = [Proposals::Uniform, Proposals::Shifted].map(|proposals| {
-            let sum = runs(&problems, Manner { inverse: INVERSE, proposals }, tapes, budget);
+            let sum = runs(&problems, Manner { proposals, ..Manner::USUAL }, tapes, budget);
             let still = 100.0 * sum.still as f64 / sum.moves.max(1) as f64;
             format!("{:>6} {:>9.1} {still:>5.1} %", sum.found, sum.moves as f64 / tapes as f64)
         });

@@ -2,7 +2,7 @@
 
 use generate::families::{deep, frame, products, start};
 use generate::solved::Solved;
-use generate::tape::{drawn, Drawn, Manner, Proposals};
+use generate::tape::{drawn, Drawn, Manner};
 use generate::Rng;
 use model::run::Search;
 use model::{Outcome, Verdict};
@@ -31,7 +31,7 @@ pub fn table() {
             for seed in 0..RUNS {
                 let values = start(seed, &solved);
                 let search = Search::accept(&solved.problem.bytes(), &values).expect("a start that agrees");
-                let manner = Manner { inverse: share, proposals: Proposals::Uniform };
+                let manner = Manner { inverse: share, ..Manner::USUAL };
                 let words = Drawn::new(Rng::words(seed), manner, usize::MAX);
                 let (_, answer) = drawn(&search, &values, BUDGET, words);
                 found += u64::from(answer.outcome == Outcome::Settled(Verdict::Model));

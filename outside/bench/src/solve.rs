@@ -3,7 +3,7 @@
 
 use generate::families::{deep, frame, mixed, products, start};
 use generate::solved::Solved;
-use generate::tape::{drawn, Drawn, Manner, Proposals};
+use generate::tape::{drawn, Drawn, Manner};
 use generate::Rng;
 use model::run::Search;
 use std::io::Write;
@@ -11,7 +11,6 @@ use std::process::{Command, Stdio};
 use std::time::{Duration, Instant};
 use text::smt2::{nodes, roots, Variables};
 
-const MANNER: Manner = Manner { inverse: 95, proposals: Proposals::Uniform };
 const ATTEMPTS: u64 = 20;
 
 fn problems() -> Vec<(&'static str, Solved)> {
@@ -64,7 +63,7 @@ fn by_library(solved: &Solved, limit: Duration) -> Option<(Duration, u64)> {
     for seed in 0..ATTEMPTS {
         let mut values = start(seed, solved);
         let search = Search::accept(&bytes, &values).expect("a start that agrees");
-        let words = Drawn::new(Rng::words(seed), MANNER, usize::MAX);
+        let words = Drawn::new(Rng::words(seed), Manner::USUAL, usize::MAX);
         let (tape, _) = drawn(&search, &values, 10_000, words);
         let run = Instant::now();
         let answer = walumpeh::run(&bytes, &mut values, &tape, 10_000);

@@ -25,6 +25,9 @@ pub struct Manner {
 }
 
 impl Manner {
+    /// What finds models soon over the benchmark's families, and makes the consistent choice, too.
+    pub const USUAL: Manner = Manner { inverse: 95, proposals: Proposals::Shifted };
+
     /// The words e and p of a step, by three words of chance in either manner.
     pub fn step(self, chance: &mut impl FnMut() -> u64) -> [u64; 2] {
         let [choice, e, p] = [(); 3].map(|()| chance());
@@ -91,11 +94,10 @@ mod tests {
     /// Of words of 64 bits every length is about as likely as any other.
     #[test]
     fn shifted_proposals_are_of_all_lengths() {
-        let manner = Manner { inverse: 95, proposals: Proposals::Shifted };
         let mut lengths = [0; 65];
         let mut chance = Rng::words(1);
         for _ in 0..64_000 {
-            let [_, p] = manner.step(&mut chance);
+            let [_, p] = Manner::USUAL.step(&mut chance);
             lengths[64 - p.leading_zeros() as usize] += 1;
         }
         assert!(lengths[..60].iter().all(|count| (800..1200).contains(count)), "{lengths:?}");

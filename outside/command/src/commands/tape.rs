@@ -17,6 +17,9 @@ use std::process::ExitCode;
 /// The tape is as long as 'walumpeh need' says: no run of the budget ends for want of words, from
 /// whatever start. As long as a run from the start that is made asks for words they are drawn for it, since
 /// only the run says which of them serve as an e; the rest are any.
+///
+/// A proposal is any word shifted right by 0 to 63, so that small values are as likely as great ones: of an
+/// operand whose high bits are fixed at 0, nearly every other proposal would pick the least value.
 #[derive(clap::Args)]
 #[command(verbatim_doc_comment)]
 pub struct Args {
@@ -35,8 +38,11 @@ pub struct Args {
     #[arg(long, default_value_t = BUDGET)]
     budget: u16,
     /// Of a hundred words e, how many ask for the inverse set, that is, are even
-    #[arg(long, default_value_t = 95, value_name = "PERCENT", value_parser = clap::value_parser!(u8).range(0..=100))]
+    #[arg(long, default_value_t = Manner::USUAL.inverse as u8, value_name = "PERCENT", value_parser = clap::value_parser!(u8).range(0..=100))]
     inverse: u8,
+    /// Draw proposals from all words alike, not small ones as often as great ones
+    #[arg(long)]
+    uniform: bool,
     /// The most words of the tape, for one that is shorter than the need; tvrun reads no more than 1023
     #[arg(long)]
     words: Option<u64>,
@@ -58,7 +64,8 @@ pub fn run(args: &Args) -> Result<ExitCode, Fault> {
     let search = Search::accept(&problem.bytes, &start).map_err(|refusal| {
         Fault::at(&args.problem, format!("the model refuses it: {} at {}", refusal.number, refusal.place))
     })?;
-    let manner = Manner { inverse: args.inverse.into(), proposals: Proposals::Uniform };
+    let proposals = if args.uniform { Proposals::Uniform } else { Proposals::Shifted };
+    let manner = Manner { inverse: args.inverse.into(), proposals };
     let words = Drawn::new(|| chance.next_u64(), manner, length);
     let (mut tape, _) = drawn(&search, &start, args.budget, words);
     tape.resize_with(length, || chance.next_u64());

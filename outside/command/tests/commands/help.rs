@@ -28,7 +28,7 @@ fn every_command_has_help() {
     for (command, words) in [
         ("build", ["--rootless", "root ok"]),
         ("need", ["--budget <BUDGET>", "longest chain H"]),
-        ("tape", ["--seed <SEED>", "[default: 95]"]),
+        ("tape", ["--uniform", "[default: 95]"]),
         ("run", ["--budget", "3 spent, 4 ended, 5 closed"]),
         ("export", ["--answer <FILE>", "--pin <ID=VALUE>"]),
         ("show", ["fixed bits", "<=="]),

@@ -78,15 +78,29 @@ fn a_tape_has_the_words_that_are_needed() {
     }
 }
 
+/// A problem without a solution, x · 6 = 1: every move takes a word and two for each of its two steps.
+const ODD: &str = "x = var 4\nsix = const 4 6\np = mul x six\none = const 4 1\nok = eq p one\nroot ok\n";
+
+/// Proposals are small as often as great, unless all words are to be alike.
+#[test]
+fn how_proposals_are_drawn() {
+    let at = At::new("proposals");
+    at.write("odd.txt", ODD);
+    at.prints("build odd.txt odd.tbv", "");
+    for (asked, small) in [("", 850..1150), ("--uniform", 0..5)] {
+        at.prints(&format!("tape odd.tbv --budget 1000 {asked}"), "");
+        let tape = model::files::words_of(&at.read("tape.bin"));
+        let proposals = tape[1..].chunks(5).flat_map(|words| [words[2], words[4]]);
+        let count = proposals.filter(|&p| p < 1 << 32).count();
+        assert!(small.contains(&count), "{asked}: {count}");
+    }
+}
+
 /// Of the words e those asked for are even, and a tape can be longer than tvrun reads.
 #[test]
 fn the_share_of_inverse_choices_and_long_tapes() {
     let at = At::new("share");
-    // x · 6 = 1 has no solution: every move takes a word and two for each of its two steps.
-    at.write(
-        "odd.txt",
-        "x = var 4\nsix = const 4 6\np = mul x six\none = const 4 1\nok = eq p one\nroot ok\n",
-    );
+    at.write("odd.txt", ODD);
     at.prints("build odd.txt odd.tbv", "");
     for (share, even) in [(0, 0), (100, 2000)] {
         at.prints(&format!("tape odd.tbv --budget 1000 --words 10000 --inverse {share}"), "");
