@@ -24,7 +24,7 @@
 extern "C" {
 #endif
 
-enum { WAL_STACK = 24576 };
+enum { WAL_STACK = 17408 };
 
 /* What a node computes. Fields a, b, c of a node name its operands; extract's b is its lowest bit. */
 enum {
