@@ -211,7 +211,12 @@ module _ (s vs : List ℕ) (i : ℕ) {m : Node} (e : m ≡ nodeAt s i) where
   unfolding problem
   reads v j h = rw e (omega (arith, good-of s (v .accepted) .node i (v .inside) .below j (rw e at h), v .inside, v .places))
 
-  -- and so are the bytes of its operand a
+  -- it has a width
+  pub sized : Evaluable s vs i → (1 ≤ m .width) × (m .width ≤ 64)
+  unfolding problem
+  sized v = let g = good-of s (v .accepted) .node i (v .inside) in rw e (g .some, g .wide)
+
+  -- and the bytes of its operand a are there
   pub first-readable : Evaluable s vs i → Readable s (m .a)
   first-readable v = rw e (node-there s (nodeAt s i .a) (v .accepted) (first-inside s vs i v))
 

@@ -6,7 +6,7 @@ use native.Mathlib.Omega.{arith}
 use lib.Dec.{eqb, ltb}
 use borrow.Author.Needs.{needs}
 use Rattle.operators.specs.laws.Arms.{flagged, chosen, rest, join-asks, part-asks, none-left}
-use Rattle.evaluation.specs.laws.Readings.{kind-there, reads, first-readable, stands, gives, own-value, constant-value, node-there}
+use Rattle.evaluation.specs.laws.Readings.{kind-there, reads, sized, first-readable, stands, gives, own-value, constant-value, node-there}
 use Rattle.evaluation.proofs.values.value_at.Statement.{statement}
 use Rattle.evaluation.proofs.values.value_at.Tie as tie
 
@@ -50,8 +50,7 @@ read-requires-7 c κs = reads _ _ _ (c .before .before .before .node-at .ensures
 
 sum-requires : tie.Need-sum-requires
 sum-requires c κs =
-    let m = c .before .before in
-    let r = stands _ _ _ (m .before .before .node-at .ensures) (m .before .before .before .before .before .pre) (omega arith) .ready in (r .some, r .wide)
+    let m = c .before .before in sized _ _ _ (m .before .before .node-at .ensures) (m .before .before .before .before .before .pre)
 
 read-requires-8 : tie.Need-read-requires-8
 read-requires-8 c κs = reads _ _ _ (c .before .before .node-at .ensures) (c .before .before .before .before .before .pre) 0 (rw (c .match .keys7) (omega arith))
@@ -61,8 +60,7 @@ read-requires-9 c κs = reads _ _ _ (c .before .before .before .node-at .ensures
 
 product-requires : tie.Need-product-requires
 product-requires c κs =
-    let m = c .before .before in
-    let r = stands _ _ _ (m .before .before .node-at .ensures) (m .before .before .before .before .before .pre) (omega arith) .ready in (r .some, r .wide)
+    let m = c .before .before in sized _ _ _ (m .before .before .node-at .ensures) (m .before .before .before .before .before .pre)
 
 read-requires-10 : tie.Need-read-requires-10
 read-requires-10 c κs = reads _ _ _ (c .before .before .node-at .ensures) (c .before .before .before .before .before .pre) 0 (rw (c .match .keys8) (omega arith))
@@ -72,8 +70,7 @@ read-requires-11 c κs = reads _ _ _ (c .before .before .before .node-at .ensure
 
 left-requires : tie.Need-left-requires
 left-requires c κs =
-    let m = c .before .before in
-    let r = stands _ _ _ (m .before .before .node-at .ensures) (m .before .before .before .before .before .pre) (omega arith) .ready in (r .some, r .wide)
+    let m = c .before .before in sized _ _ _ (m .before .before .node-at .ensures) (m .before .before .before .before .before .pre)
 
 read-requires-12 : tie.Need-read-requires-12
 read-requires-12 c κs = reads _ _ _ (c .before .before .node-at .ensures) (c .before .before .before .before .before .pre) 0 (rw (c .match .keys9) (omega arith))
