@@ -1,0 +1,17 @@
+-- Nothing but gaps up to the end.
+use mathlib.Core.Path.{_≡_, refl, sym, _∙_}
+use native.Mathlib.Omega.{arith}
+use borrow.Author.Needs.{needs}
+use denote.Ref.{now}
+use Rattle.models.specs.laws.Tokens.{ended-is}
+use Rattle.models.proofs.entries.ended.Statement.{statement}
+use Rattle.models.proofs.entries.ended.Tie as tie
+
+skip-requires : tie.Need-skip-requires
+skip-requires c κs = search needs
+
+returns : tie.Need-returns
+returns c = ended-is _ _ _ (c .skip .ensures)
+
+pub ended-spec : {M : Type 1} → statement M
+ended-spec = tie.close (tie.spec skip-requires returns)

@@ -1,0 +1,25 @@
+-- By what 64 bits tell of the number.
+use mathlib.Core.Path.{_≡_, refl, sym, _∙_}
+use native.Mathlib.Omega.{arith}
+use borrow.Author.Needs.{needs}
+use Rattle.models.specs.laws.Numbers.{over-huge, over-small}
+use Rattle.models.proofs.entries.overflow.Statement.{statement}
+use Rattle.models.proofs.entries.overflow.Tie as tie
+
+enum-known-n : tie.Need-enum-known-n
+enum-known-n c = search needs
+
+enum-told : tie.Need-enum-told
+enum-told c = search needs
+
+returns : tie.Need-returns
+returns c = over-huge _ _ (c .enum-told .given .1)
+
+too-large-requires : tie.Need-too-large-requires
+too-large-requires c κs = search needs
+
+returns-2 : tie.Need-returns-2
+returns-2 c = over-small _ _ _ _ (c .before .before .n .given .1) (c .too-large .ensures)
+
+pub overflow-spec : {M : Type 1} → statement M
+overflow-spec = tie.close (tie.spec enum-known-n enum-told returns too-large-requires returns-2)

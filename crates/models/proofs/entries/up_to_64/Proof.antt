@@ -1,0 +1,16 @@
+-- By the comparison.
+use mathlib.Core.Path.{_≡_, refl, sym, _∙_}
+use native.Mathlib.Omega.{arith}
+use borrow.Author.Needs.{needs}
+use Rattle.models.specs.laws.Numbers.{up-low, up-high}
+use Rattle.models.proofs.entries.up_to_64.Statement.{statement}
+use Rattle.models.proofs.entries.up_to_64.Tie as tie
+
+returns : tie.Need-returns
+returns c = up-low _ (c .if1 .taken)
+
+returns-2 : tie.Need-returns-2
+returns-2 c = up-high _ (c .if1 .left)
+
+pub up-to-64-spec : {M : Type 1} → statement M
+up-to-64-spec = tie.close (tie.spec returns returns-2)

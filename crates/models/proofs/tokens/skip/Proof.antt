@@ -1,0 +1,44 @@
+-- The loop's invariant: the tokens from i on are those from `at` on.
+use mathlib.Core.Path.{_≡_, refl, sym, _∙_}
+use native.Mathlib.Omega.{arith}
+use borrow.Author.Needs.{needs}
+use Prim.Native.Nat.{_-_, _≤_}
+use lib.ListN.{length, drop}
+use borrow.Author.Tests.{not-true, not-false}
+use Rattle.models.specs.Tokens.{tokens}
+use Rattle.models.specs.laws.Tokens.{tokens-gap, piece-inside, piece-onward}
+use Rattle.models.proofs.tokens.skip.Statement.{statement}
+use Rattle.models.proofs.tokens.skip.Tie as tie
+
+abbrev Inv-loop : tie.InvT-loop
+Inv-loop text at i₀ i = (at ≤ i) × (i ≤ length text) × (tokens (drop i text) ≡ tokens (drop at text))
+
+abbrev μ-loop : tie.MeasureT-loop
+μ-loop text at i₀ i = length text - i
+
+loop-holds : tie.Need-loop-holds Inv-loop μ-loop
+loop-holds c = (omega arith, omega arith, refl)
+
+shared-slice-read-is-gap : tie.Need-shared-slice-read-is-gap Inv-loop μ-loop
+shared-slice-read-is-gap c = omega arith
+
+is-gap-requires : tie.Need-is-gap-requires Inv-loop μ-loop
+is-gap-requires c κs = search needs
+
+returns : tie.Need-returns Inv-loop μ-loop
+returns c = record { onward = omega arith; inside = omega arith; same = c .before .before .before .before .loop .inv .2; stops = λ h. sym (c .before .is-gap .ensures) ∙ not-true _ (c .if1 .taken) }
+
+piece-end-requires : tie.Need-piece-end-requires Inv-loop μ-loop
+piece-end-requires c κs = omega arith
+
+loop-less : tie.Need-loop-less Inv-loop μ-loop
+loop-less c = omega (arith, piece-onward _ (c .before .before .before .before .before .loop .i) _ (omega arith) (c .piece-end .ensures))
+
+loop-again : tie.Need-loop-again Inv-loop μ-loop
+loop-again c = (omega (arith, piece-onward _ (c .before .before .before .before .before .loop .i) _ (omega arith) (c .piece-end .ensures)), piece-inside _ (c .before .before .before .before .before .loop .i) _ (omega arith) (c .piece-end .ensures) .1, sym (tokens-gap _ _ _ _ (omega arith) (c .before .before .is-gap .ensures) (not-false _ (c .before .if1 .left)) (c .piece-end .ensures)) ∙ c .before .before .before .before .before .loop .inv .2)
+
+returns-2 : tie.Need-returns-2 Inv-loop μ-loop
+returns-2 c = record { onward = omega arith; inside = omega arith; same = c .before .loop .inv .2; stops = λ h. absurd (omega arith) }
+
+pub skip-spec : {M : Type 1} → statement M
+skip-spec = tie.close (tie.spec Inv-loop μ-loop loop-holds shared-slice-read-is-gap is-gap-requires returns piece-end-requires loop-less loop-again returns-2)

@@ -1,0 +1,334 @@
+// The entries of a get-model answer: `(`, perhaps `model`, then `(define-fun NAME () (_ BitVec W) VALUE)` each, then `)`.
+ghost use mathlib.Core.Path.{_≡_};
+ghost use mathlib.Core.Bool.{cond};
+ghost use mathlib.Core.List.{[], _∷_};
+ghost use Prim.Native.Nat.{_*_, _^_, _≤_, _<_};
+ghost use lib.Dec.{leb, eqb};
+ghost use lib.ListN.{length, take, drop, getD};
+ghost use Rattle.texts.specs.Runs.{equal};
+ghost use Rattle.texts.specs.Numbers.{numbered};
+ghost use Rattle.models.specs.Tokens.{tokens};
+ghost use Rattle.models.specs.Entries.{isNumeral, upTo64, widthSaid, baseOf, literalWidth, isDecimal, fits as fitting, entrySize, entryOf, isModel};
+ghost use Rattle.models.specs.Judgement.{misfits};
+ghost use Rattle.models.specs.inner.Judging.{form, matchesPart, overflows, small, Begins, Ends};
+use crate::names::inside;
+use crate::names::is_name;
+use crate::tokens::after;
+use crate::tokens::skip;
+use crate::tokens::token;
+use texts::Number;
+use texts::byte_at;
+use texts::digits;
+use texts::same;
+use texts::value_in;
+
+// What stands at one place of an entry.
+pub enum Slot {
+    Opens,
+    Closes,
+    Define,
+    Index,
+    Sort,
+    Name,
+    Width,
+    Literal,
+    Decimal,
+}
+
+// `(define-fun NAME () (_ BitVec W)`, then `#b.. )` or `#x.. )`, or `(_ bvN w))`.
+const FORM: [Slot; 18] = [
+    Slot::Opens,
+    Slot::Define,
+    Slot::Name,
+    Slot::Opens,
+    Slot::Closes,
+    Slot::Opens,
+    Slot::Index,
+    Slot::Sort,
+    Slot::Width,
+    Slot::Closes,
+    Slot::Literal,
+    Slot::Closes,
+    Slot::Opens,
+    Slot::Index,
+    Slot::Decimal,
+    Slot::Width,
+    Slot::Closes,
+    Slot::Closes,
+];
+
+fn is_numeral(t: &[u8]) -> bool
+    ensures { λ r. ⌜ r ≡ isNumeral (now (t .entry)) ⌝ }
+{
+    digits(t, 10) & ((t.len() == 1) | (byte_at(t, 0) != 48))
+}
+
+// A width of 1 to 64, and 0 for any other.
+fn up_to_64(w: u64) -> u64
+    ensures { λ r. ⌜ r ≡ upTo64 w ⌝ }
+{
+    if w <= 64 {
+        return w;
+    }
+    0
+}
+
+// The width that a numeral says; 0 where it is none, or no numeral.
+fn width_said(t: &[u8]) -> u64
+    ensures { λ r. ⌜ r ≡ widthSaid (now (t .entry)) ⌝ }
+{
+    if !is_numeral(t) {
+        return 0;
+    }
+    let Number::Small(w) = value_in(t, 10) else {
+        return 0;
+    };
+    up_to_64(w)
+}
+
+// Whether a token begins with two bytes.
+fn begins(t: &[u8], first: u8, second: u8) -> bool
+    ensures { λ r. ⌜ r ≡ equal (take 2 (now (t .entry))) (first ∷ second ∷ []) ⌝ }
+{
+    if t.len() < 2 {
+        return false;
+    }
+    (t[0] == first) & (t[1] == second)
+}
+
+// What follows those two bytes.
+fn beyond(t: &[u8]) -> &[u8]
+    ensures { λ r. ⌜ now r ≡ drop 2 (now (t .entry)) ⌝ }
+{
+    if t.len() < 2 {
+        let end = t.len();
+        return &t[end..];
+    }
+    let from: usize = 2;
+    &t[from..]
+}
+
+// The base of a literal, `#b` or `#x`; 0 where it is none.
+fn base_of(t: &[u8]) -> u8
+    ensures { λ r. ⌜ r ≡ baseOf (now (t .entry)) ⌝ }
+{
+    if begins(t, 35, 98) {
+        return 2;
+    }
+    if begins(t, 35, 120) {
+        return 16;
+    }
+    0
+}
+
+// How many bits so many digits are; 0 where they are too many.
+fn bits_of(base: u8, count: usize) -> u64
+    ensures { λ r. ⌜ r ≡ upTo64 (cond (eqb base 2) count (4 * count)) ⌝ }
+{
+    if base == 2 {
+        return up_to_64(count as u64);
+    }
+    if count <= 16 {
+        return 4 * (count as u64);
+    }
+    0
+}
+
+// The width of a literal; 0 where it has none of 1 to 64, or is none.
+fn literal_width(t: &[u8]) -> u64
+    ensures { λ r. ⌜ r ≡ literalWidth (now (t .entry)) ⌝ }
+{
+    let base = base_of(t);
+    let said = beyond(t);
+    if !digits(said, base) {
+        return 0;
+    }
+    bits_of(base, said.len())
+}
+
+fn is_decimal(t: &[u8]) -> bool
+    ensures { λ r. ⌜ r ≡ isDecimal (now (t .entry)) ⌝ }
+{
+    begins(t, 98, 118) & is_numeral(beyond(t))
+}
+
+// Whether a token fits where it stands.
+fn fits(slot: Slot, t: &[u8]) -> bool
+    ensures { λ r. ⌜ r ≡ fitting slot (now (t .entry)) ⌝ }
+{
+    match slot {
+        Slot::Opens => same(t, b"("),
+        Slot::Closes => same(t, b")"),
+        Slot::Define => same(t, b"define-fun"),
+        Slot::Index => same(t, b"_"),
+        Slot::Sort => same(t, b"BitVec"),
+        Slot::Name => is_name(t),
+        Slot::Width => 0 < width_said(t),
+        Slot::Literal => 0 < literal_width(t),
+        Slot::Decimal => is_decimal(t),
+    }
+}
+
+fn slot_at(i: usize) -> Slot
+    requires { ⌜ i < 18 ⌝ }
+    ensures { λ r. ⌜ r ≡ getD form i Slot.Opens ⌝ }
+{
+    FORM[i]
+}
+
+// Whether the tokens from a place on fit the slots from the first up to the last.
+fn matches(text: &[u8], at: usize, first: usize, last: usize) -> bool
+    requires { ⌜ (at ≤ length (now text)) × (first ≤ last) × (last ≤ 18) ⌝ }
+    ensures { λ r. ⌜ r ≡ matchesPart (now (text .entry)) at first last ⌝ }
+{
+    let mut place = at;
+    let mut i = first;
+    while i < last {
+        if !fits(slot_at(i), token(text, place, 0)) {
+            return false;
+        }
+        place = after(text, place, 1);
+        i += 1;
+    }
+    true
+}
+
+// How many tokens the entry has that begins at a place; 0 where none does.
+pub(crate) fn entry_size(text: &[u8], at: usize) -> u8
+    requires { ⌜ at ≤ length (now text) ⌝ }
+    ensures { λ r. ⌜ r ≡ entrySize (tokens (drop at (now (text .entry)))) ⌝ }
+{
+    if !matches(text, at, 0, 10) {
+        return 0;
+    }
+    let value = after(text, at, 10);
+    if matches(text, value, 10, 12) {
+        return 12;
+    }
+    if matches(text, value, 12, 18) {
+        return 16;
+    }
+    0
+}
+
+// What the entry says that begins at a place: its name, the width of its sort, and a value with its own width.
+pub(crate) fn name_at(text: &[u8], at: usize) -> &[u8]
+    requires { ⌜ at ≤ length (now text) ⌝ }
+    ensures { λ r. ⌜ now r ≡ entryOf (tokens (drop at (now (text .entry)))) .name ⌝ }
+{
+    inside(token(text, at, 2))
+}
+
+fn sort_at(text: &[u8], at: usize) -> u64
+    requires { ⌜ at ≤ length (now text) ⌝ }
+    ensures { λ r. ⌜ r ≡ entryOf (tokens (drop at (now (text .entry)))) .sort ⌝ }
+{
+    width_said(token(text, at, 8))
+}
+
+fn value_width(text: &[u8], at: usize) -> u64
+    requires { ⌜ at ≤ length (now text) ⌝ }
+    ensures { λ r. ⌜ r ≡ entryOf (tokens (drop at (now (text .entry)))) .width ⌝ }
+{
+    let w = literal_width(token(text, at, 10));
+    if 0 < w {
+        return w;
+    }
+    width_said(token(text, at, 13))
+}
+
+pub(crate) fn value_at(text: &[u8], at: usize) -> Number
+    requires { ⌜ at ≤ length (now text) ⌝ }
+    ensures { λ r. ⌜ r ≡ numbered (entryOf (tokens (drop at (now (text .entry)))) .value) ⌝ }
+{
+    let t = token(text, at, 10);
+    if 0 < literal_width(t) {
+        let base = base_of(t);
+        return value_in(beyond(t), base);
+    }
+    let d = token(text, at, 12);
+    value_in(beyond(d), 10)
+}
+
+// Whether a number is too large for a width.
+fn too_large(v: u64, w: u64) -> bool
+    ensures { λ r. ⌜ r ≡ leb (2 ^ w) v ⌝ }
+{
+    if w < 64 {
+        return (v >> w) != 0;
+    }
+    false
+}
+
+fn overflow(n: Number, w: u64) -> bool
+    ensures { λ r. ⌜ r ≡ overflows n w ⌝ }
+{
+    let Number::Small(v) = n else {
+        return true;
+    };
+    too_large(v, w)
+}
+
+// The value of the entry that begins at a place; 0 where 64 bits do not hold it.
+pub(crate) fn word_at(text: &[u8], at: usize) -> u64
+    requires { ⌜ at ≤ length (now text) ⌝ }
+    ensures { λ r. ⌜ r ≡ small (numbered (entryOf (tokens (drop at (now (text .entry)))) .value)) ⌝ }
+{
+    let Number::Small(v) = value_at(text, at) else {
+        return 0;
+    };
+    v
+}
+
+// 34: whether the entry that begins at a place does not fit a variable of so many bits.
+pub(crate) fn misfit(text: &[u8], at: usize, w: u8) -> bool
+    requires { ⌜ at ≤ length (now text) ⌝ }
+    ensures { λ r. ⌜ r ≡ misfits w (entryOf (tokens (drop at (now (text .entry))))) ⌝ }
+{
+    let wide = w as u64;
+    let said = value_width(text, at);
+    (sort_at(text, at) != wide) | (said != wide) | overflow(value_at(text, at), said)
+}
+
+// Whether no token is left from a place on.
+fn ended(text: &[u8], at: usize) -> bool
+    requires { ⌜ at ≤ length (now text) ⌝ }
+    ensures { λ r. ⌜ r ≡ eqb (length (tokens (drop at (now (text .entry))))) 0 ⌝ }
+{
+    skip(text, at) == text.len()
+}
+
+// Where the entries begin: after `(` and perhaps `model`.
+pub(crate) fn body_start(text: &[u8]) -> usize
+    ensures { λ r. ⌜ Begins (now (text .entry)) r ⌝ }
+{
+    if same(token(text, 0, 1), b"model") {
+        return after(text, 0, 2);
+    }
+    after(text, 0, 1)
+}
+
+// Where they end.
+fn entries_end(text: &[u8]) -> usize
+    ensures { λ r. ⌜ Ends (now (text .entry)) r ⌝ }
+{
+    let mut at = body_start(text);
+    loop {
+        let size = entry_size(text, at);
+        if size == 0 {
+            return at;
+        }
+        at = after(text, at, size);
+    }
+}
+
+// 31: whether a text is a get-model answer.
+pub(crate) fn is_model(text: &[u8]) -> bool
+    ensures { λ r. ⌜ r ≡ isModel (now (text .entry)) ⌝ }
+{
+    let end = entries_end(text);
+    let last = after(text, end, 1);
+    let opened = same(token(text, 0, 0), b"(");
+    let closed = same(token(text, end, 0), b")");
+    opened & closed & ended(text, last)
+}
