@@ -3,6 +3,7 @@ pub mod Codes
 pub mod Offered
 pub mod Calls
 pub mod Needs
+pub mod Judgements
 pub mod Runs
 pub mod promises
 pub mod laws

@@ -1,5 +1,6 @@
 -- What is promised, as theorems over all that the contracts allow.
 pub mod Determined
 pub mod Had
+pub mod Judgements
 pub mod Needs
 pub mod Runs

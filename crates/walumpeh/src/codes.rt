@@ -1,6 +1,9 @@
 // What every call but the two picks answers: 0 where nothing is refused, else the refusal's number + 256 times its place.
 ghost use mathlib.Core.Path.{_≡_};
-ghost use Rattle.walumpeh.specs.Codes.{refusalCode, checkedCode, outcomeCode};
+ghost use Prim.Native.Nat.{min};
+ghost use Rattle.walumpeh.specs.Codes.{refusalCode, checkedCode, outcomeCode, lastPlace, judgedCode};
+use models::Fault;
+use models::Judged;
 use problem::Checked;
 use problem::Refusal;
 use search::Outcome;
@@ -29,5 +32,25 @@ pub(crate) fn outcome_code(outcome: Outcome) -> u64
     match outcome {
         Outcome::Settled(_) => 0,
         Outcome::Refused(why) => refusal_code(why),
+    }
+}
+
+// An entry's position may have more than the 56 bits above the number: the last of them stands for it then.
+fn fault_code(why: Fault) -> u64
+    ensures { λ r. ⌜ r ≡ refusalCode (why .number) (min (why .place) lastPlace) ⌝ }
+{
+    if why.place < 72057594037927935 {
+        return (why.number as u64) + 256 * why.place;
+    }
+    (why.number as u64) + 256 * 72057594037927935
+}
+
+pub(crate) fn judged_code(said: Judged) -> u64
+    ensures { λ r. ⌜ r ≡ judgedCode said ⌝ }
+{
+    match said {
+        Judged::Yes => 0,
+        Judged::No(_) => 0,
+        Judged::Refused(why) => fault_code(why),
     }
 }
