@@ -80,17 +80,24 @@ pub record Entry : Type 0 where
 unfoldable pub noEntry : Entry
 noEntry = record { name = []; sort = 0; width = 0; value = 0 }
 
+-- of the tokens from a value on: "#b..", "#x.." or "(_ bvN w)", its width and itself
 abbrev pub isLiteral : List Token → Bool
-isLiteral ts = fits Literal (getD ts 10 [])
+isLiteral us = fits Literal (getD us 0 [])
+
+unfoldable pub valueWidth : List Token → ℕ
+valueWidth us = cond (isLiteral us) (literalWidth (getD us 0 [])) (widthSaid (getD us 3 []))
+
+unfoldable pub valueSaid : List Token → ℕ
+valueSaid us =
+    cond (isLiteral us) (valueIn (baseOf (getD us 0 [])) (drop 2 (getD us 0 []))) (valueIn 10 (drop 2 (getD us 2 [])))
 
 unfoldable pub entryOf : List Token → Entry
 entryOf ts =
     record {
       name = inside (getD ts 2 []);
       sort = widthSaid (getD ts 8 []);
-      width = cond (isLiteral ts) (literalWidth (getD ts 10 [])) (widthSaid (getD ts 13 []));
-      value =
-          cond (isLiteral ts) (valueIn (baseOf (getD ts 10 [])) (drop 2 (getD ts 10 []))) (valueIn 10 (drop 2 (getD ts 12 [])));
+      width = valueWidth (drop 10 ts);
+      value = valueSaid (drop 10 ts);
     }
 
 -- the tokens after `(` and perhaps `model`

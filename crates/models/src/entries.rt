@@ -8,12 +8,14 @@ ghost use lib.ListN.{length, take, drop, getD};
 ghost use Rattle.texts.specs.Runs.{equal};
 ghost use Rattle.texts.specs.Numbers.{numbered};
 ghost use Rattle.models.specs.Tokens.{tokens};
-ghost use Rattle.models.specs.Entries.{isNumeral, upTo64, widthSaid, baseOf, literalWidth, isDecimal, fits as fitting, entrySize, entryOf, isModel};
-ghost use Rattle.models.specs.Judgement.{misfits};
-ghost use Rattle.models.specs.inner.Judging.{form, matchesPart, overflows, small, Begins, Ends};
+ghost use Rattle.models.specs.Entries.{isNumeral, upTo64, widthSaid, baseOf, literalWidth, isDecimal, fits as fitting, valueWidth, valueSaid, isModel};
+ghost use Rattle.models.specs.Names.{inside as insideOf};
+ghost use Rattle.models.specs.inner.Judging.{form, PassedBy, EntryAt, ItemAt, overflows, small, Begins, Ends};
 use crate::names::inside;
 use crate::names::is_name;
 use crate::tokens::after;
+use crate::tokens::first_token;
+use crate::tokens::piece_end;
 use crate::tokens::skip;
 use crate::tokens::token;
 use texts::Number;
@@ -176,77 +178,121 @@ fn slot_at(i: usize) -> Slot
     FORM[i]
 }
 
-// Whether the tokens from a place on fit the slots from the first up to the last.
-fn matches(text: &[u8], at: usize, first: usize, last: usize) -> bool
+// The place after tokens that fit their slots, or that they do not.
+pub enum Passed {
+    After(usize),
+    Not,
+}
+
+// The tokens from a place on, held against the slots from the first up to the last.
+fn pass(text: &[u8], at: usize, first: usize, last: usize) -> Passed
     requires { ⌜ (at ≤ length (now text)) × (first ≤ last) × (last ≤ 18) ⌝ }
-    ensures { λ r. ⌜ r ≡ matchesPart (now (text .entry)) at first last ⌝ }
+    ensures { λ r. ⌜ PassedBy (now (text .entry)) at first last r ⌝ }
 {
     let mut place = at;
     let mut i = first;
     while i < last {
-        if !fits(slot_at(i), token(text, place, 0)) {
-            return false;
+        let from = skip(text, place);
+        let end = piece_end(text, from);
+        if !fits(slot_at(i), &text[from..end]) {
+            return Passed::Not;
         }
-        place = after(text, place, 1);
+        place = end;
         i += 1;
     }
-    true
+    Passed::After(place)
 }
 
-// How many tokens the entry has that begins at a place; 0 where none does.
-pub(crate) fn entry_size(text: &[u8], at: usize) -> u8
+// Where the parts of an entry stand: its name, its sort's width, its value; the place after it; and how many tokens it has, 0 where
+// there is no entry.
+pub struct Places {
+    pub name: usize,
+    pub sort: usize,
+    pub value: usize,
+    pub end: usize,
+    pub size: u8,
+}
+
+const NOWHERE: Places = Places {
+    name: 0,
+    sort: 0,
+    value: 0,
+    end: 0,
+    size: 0,
+};
+
+// The entry that begins at a place.
+pub(crate) fn entry_at(text: &[u8], at: usize) -> Places
     requires { ⌜ at ≤ length (now text) ⌝ }
-    ensures { λ r. ⌜ r ≡ entrySize (tokens (drop at (now (text .entry)))) ⌝ }
+    ensures { λ r. ⌜ EntryAt (now (text .entry)) at r ⌝ }
 {
-    if !matches(text, at, 0, 10) {
-        return 0;
+    let Passed::After(name) = pass(text, at, 0, 2) else {
+        return NOWHERE;
+    };
+    let Passed::After(sort) = pass(text, name, 2, 8) else {
+        return NOWHERE;
+    };
+    let Passed::After(value) = pass(text, sort, 8, 10) else {
+        return NOWHERE;
+    };
+    if let Passed::After(end) = pass(text, value, 10, 12) {
+        return Places {
+            name,
+            sort,
+            value,
+            end,
+            size: 12,
+        };
     }
-    let value = after(text, at, 10);
-    if matches(text, value, 10, 12) {
-        return 12;
+    let Passed::After(end) = pass(text, value, 12, 18) else {
+        return NOWHERE;
+    };
+    Places {
+        name,
+        sort,
+        value,
+        end,
+        size: 16,
     }
-    if matches(text, value, 12, 18) {
-        return 16;
-    }
-    0
 }
 
-// What the entry says that begins at a place: its name, the width of its sort, and a value with its own width.
+// The name that stands at a place, and the width of a sort.
 pub(crate) fn name_at(text: &[u8], at: usize) -> &[u8]
     requires { ⌜ at ≤ length (now text) ⌝ }
-    ensures { λ r. ⌜ now r ≡ entryOf (tokens (drop at (now (text .entry)))) .name ⌝ }
+    ensures { λ r. ⌜ now r ≡ insideOf (getD (tokens (drop at (now (text .entry)))) 0 []) ⌝ }
 {
-    inside(token(text, at, 2))
+    inside(first_token(text, at))
 }
 
 fn sort_at(text: &[u8], at: usize) -> u64
     requires { ⌜ at ≤ length (now text) ⌝ }
-    ensures { λ r. ⌜ r ≡ entryOf (tokens (drop at (now (text .entry)))) .sort ⌝ }
+    ensures { λ r. ⌜ r ≡ widthSaid (getD (tokens (drop at (now (text .entry)))) 0 []) ⌝ }
 {
-    width_said(token(text, at, 8))
+    width_said(first_token(text, at))
 }
 
+// The value that stands at a place, with its own width.
 fn value_width(text: &[u8], at: usize) -> u64
     requires { ⌜ at ≤ length (now text) ⌝ }
-    ensures { λ r. ⌜ r ≡ entryOf (tokens (drop at (now (text .entry)))) .width ⌝ }
+    ensures { λ r. ⌜ r ≡ valueWidth (tokens (drop at (now (text .entry)))) ⌝ }
 {
-    let w = literal_width(token(text, at, 10));
+    let w = literal_width(first_token(text, at));
     if 0 < w {
         return w;
     }
-    width_said(token(text, at, 13))
+    width_said(token(text, at, 3))
 }
 
-pub(crate) fn value_at(text: &[u8], at: usize) -> Number
+fn value_at(text: &[u8], at: usize) -> Number
     requires { ⌜ at ≤ length (now text) ⌝ }
-    ensures { λ r. ⌜ r ≡ numbered (entryOf (tokens (drop at (now (text .entry)))) .value) ⌝ }
+    ensures { λ r. ⌜ r ≡ numbered (valueSaid (tokens (drop at (now (text .entry))))) ⌝ }
 {
-    let t = token(text, at, 10);
+    let t = first_token(text, at);
     if 0 < literal_width(t) {
         let base = base_of(t);
         return value_in(beyond(t), base);
     }
-    let d = token(text, at, 12);
+    let d = token(text, at, 2);
     value_in(beyond(d), 10)
 }
 
@@ -269,25 +315,33 @@ fn overflow(n: Number, w: u64) -> bool
     too_large(v, w)
 }
 
-// The value of the entry that begins at a place; 0 where 64 bits do not hold it.
-pub(crate) fn word_at(text: &[u8], at: usize) -> u64
-    requires { ⌜ at ≤ length (now text) ⌝ }
-    ensures { λ r. ⌜ r ≡ small (numbered (entryOf (tokens (drop at (now (text .entry)))) .value)) ⌝ }
+// A number itself; 0 where 64 bits do not hold it.
+fn word_of(n: Number) -> u64
+    ensures { λ r. ⌜ r ≡ small n ⌝ }
 {
-    let Number::Small(v) = value_at(text, at) else {
+    let Number::Small(v) = n else {
         return 0;
     };
     v
 }
 
-// 34: whether the entry that begins at a place does not fit a variable of so many bits.
-pub(crate) fn misfit(text: &[u8], at: usize, w: u8) -> bool
-    requires { ⌜ at ≤ length (now text) ⌝ }
-    ensures { λ r. ⌜ r ≡ misfits w (entryOf (tokens (drop at (now (text .entry))))) ⌝ }
+// What an entry says to a variable: 34, whether it does not fit, and its value.
+pub struct Item {
+    pub unfit: bool,
+    pub word: u64,
+}
+
+// What the sort and the value at two places say to a variable of so many bits.
+pub(crate) fn item_at(text: &[u8], sort: usize, value: usize, w: u8) -> Item
+    requires { ⌜ (sort ≤ length (now text)) × (value ≤ length (now text)) ⌝ }
+    ensures { λ r. ⌜ ItemAt (now (text .entry)) sort value w r ⌝ }
 {
     let wide = w as u64;
-    let said = value_width(text, at);
-    (sort_at(text, at) != wide) | (said != wide) | overflow(value_at(text, at), said)
+    let said = value_width(text, value);
+    let n = value_at(text, value);
+    let unfit = (sort_at(text, sort) != wide) | (said != wide) | overflow(n, said);
+    let word = word_of(n);
+    Item { unfit, word }
 }
 
 // Whether no token is left from a place on.
@@ -314,11 +368,11 @@ fn entries_end(text: &[u8]) -> usize
 {
     let mut at = body_start(text);
     loop {
-        let size = entry_size(text, at);
-        if size == 0 {
+        let entry = entry_at(text, at);
+        if entry.size == 0 {
             return at;
         }
-        at = after(text, at, size);
+        at = entry.end;
     }
 }
 

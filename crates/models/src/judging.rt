@@ -14,15 +14,14 @@ ghost use Rattle.models.specs.inner.Judging.{isYes, Sound, Placing, Kept
 use crate::Fault;
 use crate::Judged;
 use crate::entries::body_start;
-use crate::entries::entry_size;
+use crate::entries::entry_at;
 use crate::entries::is_model;
-use crate::entries::misfit;
+use crate::entries::item_at;
 use crate::entries::name_at;
-use crate::entries::word_at;
 use crate::names::any_again;
 use crate::names::position_of;
+use crate::names::read_digests;
 use crate::names::read_names;
-use crate::tokens::after;
 use evaluation::evaluate;
 use problem::node_at;
 use problem::node_count;
@@ -99,12 +98,13 @@ fn read_entries(
     text: &[u8],
     froms: &[usize],
     tos: &[usize],
+    digests: &[u64],
     ids: &[u16],
     count: usize,
     given: &mut [u8],
     words: &mut [u64],
 ) -> Judged
-    requires { ⌜ Prepared (now problem) (now list) (now froms) (now tos) (now ids) count × (now given ≡ zeros) × (now words ≡ zeros) ⌝ }
+    requires { ⌜ Prepared (now problem) (now list) (now froms) (now tos) (now digests) (now ids) count × (now given ≡ zeros) × (now words ≡ zeros) ⌝ }
     ensures { λ r. ⌜ Read (now (problem .entry)) (now (list .entry)) (now (text .entry)) (now (given .exit)) (now (words .exit)) r ⌝ }
 {
     let mut at = body_start(text);
@@ -112,11 +112,11 @@ fn read_entries(
     let mut again = Judged::Yes;
     let mut unfit = Judged::Yes;
     loop {
-        let size = entry_size(text, at);
-        if size == 0 {
+        let entry = entry_at(text, at);
+        if entry.size == 0 {
             return first_of(again, unfit);
         }
-        let owner = position_of(list, froms, tos, count, name_at(text, at));
+        let owner = position_of(list, froms, tos, digests, count, name_at(text, entry.name));
         if count <= owner {
             return Judged::Refused(Fault {
                 number: 32,
@@ -124,11 +124,12 @@ fn read_entries(
             });
         }
         let w = width_at(problem, ids[owner]);
+        let item = item_at(text, entry.sort, entry.value, w);
         again = line(again, 33, given[owner] != 0, k);
-        unfit = line(unfit, 34, misfit(text, at, w), k);
+        unfit = line(unfit, 34, item.unfit, k);
         given[owner] = 1;
-        words[owner] = word_at(text, at);
-        at = after(text, at, size);
+        words[owner] = item.word;
+        at = entry.end;
         k += 1;
     }
 }
@@ -247,13 +248,14 @@ fn judge_text(
     text: &[u8],
     froms: &[usize],
     tos: &[usize],
+    digests: &[u64],
     ids: &[u16],
     count: usize,
     given: &mut [u8],
     words: &mut [u64],
     values: &mut [u64],
 ) -> Judged
-    requires { ⌜ Prepared (now problem) (now list) (now froms) (now tos) (now ids) count × (now given ≡ zeros) × (now words ≡ zeros) × (now values ≡ zeros) ⌝ }
+    requires { ⌜ Prepared (now problem) (now list) (now froms) (now tos) (now digests) (now ids) count × (now given ≡ zeros) × (now words ≡ zeros) × (now values ≡ zeros) ⌝ }
     ensures { λ r. ⌜ r ≡ (refuse 31 0 (not (isModel (now (text .entry)))) next judgedEntries (now (problem .entry)) (names (now (list .entry))) (entries (now (text .entry)))) ⌝ }
 {
     if !is_model(text) {
@@ -262,7 +264,18 @@ fn judge_text(
             place: 0,
         });
     }
-    let said = read_entries(problem, list, text, froms, tos, ids, count, given, words);
+    let said = read_entries(
+        problem,
+        list,
+        text,
+        froms,
+        tos,
+        digests,
+        ids,
+        count,
+        given,
+        words,
+    );
     if !is_yes(said) {
         return said;
     }
@@ -276,12 +289,13 @@ pub(crate) fn judge_accepted(
     text: &[u8],
     froms: &mut [usize],
     tos: &mut [usize],
+    digests: &mut [u64],
     ids: &mut [u16],
     given: &mut [u8],
     words: &mut [u64],
     values: &mut [u64],
 ) -> Judged
-    requires { ⌜ Judging (now problem) (now froms) (now tos) (now ids) (now given) (now words) (now values) ⌝ }
+    requires { ⌜ Judging (now problem) (now froms) (now tos) (now digests) (now ids) (now given) (now words) (now values) ⌝ }
     ensures { λ r. ⌜ r ≡ judgedText (now (problem .entry)) (now (list .entry)) (now (text .entry)) ⌝ }
 {
     let count = read_variables(problem, ids);
@@ -292,7 +306,8 @@ pub(crate) fn judge_accepted(
             place: 0,
         });
     }
-    if any_again(list, froms, tos, count) {
+    read_digests(list, froms, tos, count, digests);
+    if any_again(list, froms, tos, digests, count) {
         return Judged::Refused(Fault {
             number: 30,
             place: 0,
@@ -304,6 +319,7 @@ pub(crate) fn judge_accepted(
         text,
         froms,
         tos,
+        digests,
         ids,
         count,
         given,

@@ -37,6 +37,7 @@ pub fn judge(problem: &[u8], names: &[u8], text: &[u8]) -> Judged
     }
     let mut froms = [0usize; 1024];
     let mut tos = [0usize; 1024];
+    let mut digests = [0u64; 1024];
     let mut ids = [0u16; 1024];
     let mut given = [0u8; 1024];
     let mut words = [0u64; 1024];
@@ -47,6 +48,7 @@ pub fn judge(problem: &[u8], names: &[u8], text: &[u8]) -> Judged
         text,
         &mut froms,
         &mut tos,
+        &mut digests,
         &mut ids,
         &mut given,
         &mut words,

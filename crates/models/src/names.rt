@@ -4,11 +4,13 @@ ghost use Prim.Native.Nat.{_+_, _≤_, _<_, min};
 ghost use mathlib.Core.List.{[]};
 ghost use lib.ListN.{length, getD};
 ghost use Rattle.models.specs.Names.{isBarred, inside as insideOf, isSimple, isQuoted, isName, names, position, isAgain, some};
-ghost use Rattle.models.specs.inner.Judging.{OnLine, Listed, Named};
+ghost use Rattle.models.specs.inner.Judging.{OnLine, Listed, Named, digestMore, digestOf, Indexed};
+ghost use Rattle.texts.specs.Runs.{equal};
 use texts::Class;
 use texts::byte_at;
 use texts::run_end;
 use texts::same;
+use words::wrapping_mul;
 
 // Where the name of a line stands, without its bars, and where the next line begins.
 pub struct NameLine {
@@ -122,20 +124,79 @@ fn nth_name<'a>(list: &'a [u8], froms: &[usize], tos: &[usize], count: usize, k:
     &list[from..to]
 }
 
-// Where a name stands in the list; the number of its names where it does not. Lengths are compared first.
-pub(crate) fn position_of(
+// A number by which nearly all names that differ are told apart without a look at their bytes.
+fn digest_of(t: &[u8]) -> u64
+    ensures { λ r. ⌜ r ≡ digestOf (now (t .entry)) ⌝ }
+{
+    let mut d: u64 = 0;
+    let mut i: usize = 0;
+    while i < t.len() {
+        d = digest_more(d, t[i]);
+        i += 1;
+    }
+    d
+}
+
+fn digest_more(d: u64, b: u8) -> u64
+    ensures { λ r. ⌜ r ≡ digestMore d b ⌝ }
+{
+    std::num::wrapping_add_u64(wrapping_mul(d, 11400714819323198485), b as u64)
+}
+
+// The digests of the names.
+pub(crate) fn read_digests(
     list: &[u8],
     froms: &[usize],
     tos: &[usize],
     count: usize,
-    name: &[u8],
-) -> usize
-    requires { ⌜ Named (now list) (now froms) (now tos) count ⌝ }
-    ensures { λ r. ⌜ r ≡ position (now (name .entry)) (names (now (list .entry))) ⌝ }
+    digests: &mut [u64],
+)
+    requires { ⌜ Named (now list) (now froms) (now tos) count × (count ≤ length (now digests)) ⌝ }
+    ensures { λ r. ⌜ Indexed (now (list .entry)) (now (froms .entry)) (now (tos .entry)) (now (digests .exit)) count ⌝ }
 {
     let mut k: usize = 0;
     while k < count {
-        if same(nth_name(list, froms, tos, count, k), name) {
+        digests[k] = digest_of(nth_name(list, froms, tos, count, k));
+        k += 1;
+    }
+}
+
+// Whether name k is a name whose digest is told.
+fn is_nth(
+    list: &[u8],
+    froms: &[usize],
+    tos: &[usize],
+    digests: &[u64],
+    count: usize,
+    k: usize,
+    name: &[u8],
+    digest: u64,
+) -> bool
+    requires { ⌜ Indexed (now list) (now froms) (now tos) (now digests) count × (k < count) × (digest ≡ digestOf (now name)) ⌝ }
+    ensures { λ r. ⌜ r ≡ equal (getD (names (now (list .entry))) k []) (now (name .entry)) ⌝ }
+{
+    if digests[k] != digest {
+        return false;
+    }
+    same(nth_name(list, froms, tos, count, k), name)
+}
+
+// Where a name stands in the list; the number of its names where it does not.
+pub(crate) fn position_of(
+    list: &[u8],
+    froms: &[usize],
+    tos: &[usize],
+    digests: &[u64],
+    count: usize,
+    name: &[u8],
+) -> usize
+    requires { ⌜ Indexed (now list) (now froms) (now tos) (now digests) count ⌝ }
+    ensures { λ r. ⌜ r ≡ position (now (name .entry)) (names (now (list .entry))) ⌝ }
+{
+    let digest = digest_of(name);
+    let mut k: usize = 0;
+    while k < count {
+        if is_nth(list, froms, tos, digests, count, k, name, digest) {
             return k;
         }
         k += 1;
@@ -144,14 +205,20 @@ pub(crate) fn position_of(
 }
 
 // Whether a name stands twice in the list.
-pub(crate) fn any_again(list: &[u8], froms: &[usize], tos: &[usize], count: usize) -> bool
-    requires { ⌜ Named (now list) (now froms) (now tos) count ⌝ }
+pub(crate) fn any_again(
+    list: &[u8],
+    froms: &[usize],
+    tos: &[usize],
+    digests: &[u64],
+    count: usize,
+) -> bool
+    requires { ⌜ Indexed (now list) (now froms) (now tos) (now digests) count ⌝ }
     ensures { λ r. ⌜ r ≡ some (isAgain (names (now (list .entry)))) count ⌝ }
 {
     let mut k: usize = 0;
     while k < count {
         let name = nth_name(list, froms, tos, count, k);
-        if position_of(list, froms, tos, count, name) < k {
+        if position_of(list, froms, tos, digests, count, name) < k {
             return true;
         }
         k += 1;

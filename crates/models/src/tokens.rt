@@ -1,7 +1,8 @@
 // The tokens of a text: where a piece of it ends, where the next token is, and what stands there.
 ghost use mathlib.Core.Path.{_≡_};
+ghost use mathlib.Core.Bool.{true};
 ghost use mathlib.Core.List.{[]};
-ghost use Prim.Native.Nat.{_+_, _≤_, min};
+ghost use Prim.Native.Nat.{_+_, _≤_, _<_, min};
 ghost use lib.ListN.{length, getD, drop};
 ghost use Rattle.texts.specs.Runs.{isIn, runLength};
 ghost use Rattle.models.specs.Tokens.{isGap, pieceLength, tokens};
@@ -26,7 +27,7 @@ fn bars_end(text: &[u8], at: usize) -> usize
 }
 
 // The place after the piece that begins at a place: a comment, a quoted symbol, a bare token, or a byte by itself.
-fn piece_end(text: &[u8], at: usize) -> usize
+pub(crate) fn piece_end(text: &[u8], at: usize) -> usize
     requires { ⌜ at ≤ length (now text) ⌝ }
     ensures { λ r. ⌜ r ≡ min (at + pieceLength (drop at (now (text .entry)))) (length (now (text .entry))) ⌝ }
 {
@@ -49,6 +50,17 @@ fn is_gap(b: u8) -> bool
     is_white(b) | (b == 59)
 }
 
+// The place after the gap that begins at a place: a comment, or one byte of white space.
+fn gap_end(text: &[u8], at: usize) -> usize
+    requires { ⌜ (at < length (now text)) × (isGap (getD (now text) at 0) ≡ true) ⌝ }
+    ensures { λ r. ⌜ r ≡ min (at + pieceLength (drop at (now (text .entry)))) (length (now (text .entry))) ⌝ }
+{
+    if text[at] == 59 {
+        return run_end(text, at, Class::Comment);
+    }
+    at + 1
+}
+
 // The place of the next token: white space and comments are passed over.
 pub(crate) fn skip(text: &[u8], at: usize) -> usize
     requires { ⌜ at ≤ length (now text) ⌝ }
@@ -59,13 +71,13 @@ pub(crate) fn skip(text: &[u8], at: usize) -> usize
         if !is_gap(text[i]) {
             return i;
         }
-        i = piece_end(text, i);
+        i = gap_end(text, i);
     }
     i
 }
 
 // The first token from a place on; empty where there is none.
-fn first_token(text: &[u8], at: usize) -> &[u8]
+pub(crate) fn first_token(text: &[u8], at: usize) -> &[u8]
     requires { ⌜ at ≤ length (now text) ⌝ }
     ensures { λ r. ⌜ now r ≡ getD (tokens (drop at (now (text .entry)))) 0 [] ⌝ }
 {

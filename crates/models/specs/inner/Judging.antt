@@ -2,7 +2,7 @@
 use mathlib.Core.Path.{_≡_}
 use mathlib.Core.Bool.{Bool, true, false}
 use mathlib.Core.List.{List, [], _∷_, _++_}
-use Prim.Native.Nat.{ℕ, zero, suc, _-_, _^_, _≤_, _<_, min}
+use Prim.Native.Nat.{ℕ, zero, suc, _+_, _-_, _*_, _%_, _^_, _≤_, _<_, min}
 use lib.Dec.{leb, eqb}
 use lib.ListN.{length, getD, set, take, drop}
 use Rattle.texts.specs.declared.numbers.Number.{Number}
@@ -16,10 +16,14 @@ use Rattle.models.specs.declared.Judged.{Judged}
 use Rattle.models.specs.declared.Judged.the-variants.{Yes, No, Refused}
 use Rattle.models.specs.declared.names.NameLine.{NameLine}
 use Rattle.models.specs.declared.entries.Slot.{Slot}
+use Rattle.models.specs.declared.entries.Passed.{Passed}
+use Rattle.models.specs.declared.entries.Passed.the-variants as passes
+use Rattle.models.specs.declared.entries.Places.{Places}
+use Rattle.models.specs.declared.entries.Item.{Item}
 use Rattle.models.specs.Tokens.{isGap, tokens}
 use Rattle.models.specs.Names.{names, position, isAgain, some}
-use Rattle.models.specs.Entries.{heading, literal, decimal, matches, Entry, noEntry, body, entriesIn, leftIn, entries}
-use Rattle.models.specs.Judgement.{refuse, _next_, firstSaid, variablesBelow, unknownAt, againAt, misfitAt, contradictedAt, zeroAt}
+use Rattle.models.specs.Entries.{widthSaid, heading, literal, decimal, matches, entrySize, Entry, noEntry, valueWidth, valueSaid, body, entriesIn, leftIn, entries}
+use Rattle.models.specs.Judgement.{refuse, _next_, firstSaid, variablesBelow, misfits, unknownAt, againAt, misfitAt, contradictedAt, zeroAt}
 
 -- ---- tokens.rt
 
@@ -76,6 +80,27 @@ pub record Named (list froms tos : List ℕ) (count : ℕ) : Type 0 where
   pub tos-room : count ≤ length tos
   pub placed : Placed list froms tos count
 
+-- a number that is the same of names that are the same, in 64 bits
+unfoldable pub digestMore : ℕ → ℕ → ℕ
+digestMore d b = (d * 11400714819323198485 % 2 ^ 64 + b) % 2 ^ 64
+
+unfoldable pub digestFrom : ℕ → List ℕ → ℕ
+digestFrom d [] = d
+digestFrom d (b ∷ s) = digestFrom (digestMore d b) s
+
+unfoldable pub digestOf : List ℕ → ℕ
+digestOf s = digestFrom 0 s
+
+-- the digests of the first k names of a list
+unfoldable pub Digested : List ℕ → List ℕ → ℕ → Type 0
+Digested list digests k = (j : ℕ) → j < k → getD digests j 0 ≡ digestOf (getD (names list) j [])
+
+-- all names of a list, where they stand, and their digests
+pub record Indexed (list froms tos digests : List ℕ) (count : ℕ) : Type 0 where
+  pub named : Named list froms tos count
+  pub room : count ≤ length digests
+  pub digested : Digested list digests count
+
 -- ---- entries.rt
 
 -- the slots of an entry, as code has them: those of `heading`, `literal` and `decimal`
@@ -86,6 +111,22 @@ form = heading ++ literal ++ decimal
 abbrev pub matchesPart : List ℕ → ℕ → ℕ → ℕ → Bool
 matchesPart text at first last = matches (take (last - first) (drop first form)) (tokens (drop at text))
 
+-- what a walk over slots first to last from a place on tells
+abbrev pub PassedBy : List ℕ → ℕ → ℕ → ℕ → Passed → Type 0
+PassedBy text at first last (passes.After p) = (matchesPart text at first last ≡ true) × After text at (last - first) p
+PassedBy text at first last passes.Not = matchesPart text at first last ≡ false
+
+-- the places of the parts of an entry that begins at `at`
+pub record Parts (text : List ℕ) (at : ℕ) (r : Places) : Type 0 where
+  pub name : After text at 2 (r .name)
+  pub sort : After text at 8 (r .sort)
+  pub value : After text at 10 (r .value)
+  pub end : After text at (r .size) (r .end)
+
+pub record EntryAt (text : List ℕ) (at : ℕ) (r : Places) : Type 0 where
+  pub size : r .size ≡ entrySize (tokens (drop at text))
+  pub parts : (r .size ≡ 0 → ⊥) → Parts text at r
+
 -- whether a number, as far as 64 bits tell it, is too large for a width
 abbrev pub overflows : Number → ℕ → Bool
 overflows (Small v) w = leb (2 ^ w) v
@@ -95,6 +136,17 @@ overflows Huge w = true
 abbrev pub small : Number → ℕ
 small (Small v) = v
 small Huge = 0
+
+-- what a sort's width and a value say to a variable of so many bits
+abbrev pub sortSaid : List ℕ → ℕ → ℕ
+sortSaid text sort = widthSaid (getD (tokens (drop sort text)) 0 [])
+
+pub record ItemAt (text : List ℕ) (sort value w : ℕ) (r : Item) : Type 0 where
+  pub unfit :
+      r .unfit
+      ≡ misfits w
+      (record { name = []; sort = sortSaid text sort; width = valueWidth (tokens (drop value text)); value = valueSaid (tokens (drop value text)) })
+  pub word : r .word ≡ small (numbered (valueSaid (tokens (drop value text))))
 
 -- where the entries begin, and where they end
 pub record Begins (text : List ℕ) (r : ℕ) : Type 0 where
@@ -146,10 +198,10 @@ pub record Kept (s ids : List ℕ) (i k : ℕ) : Type 0 where
   pub kept : take k ids ≡ variablesBelow s i
 
 -- an accepted problem, the ids of its variables, and their names
-pub record Prepared (s list froms tos ids : List ℕ) (count : ℕ) : Type 0 where
+pub record Prepared (s list froms tos digests ids : List ℕ) (count : ℕ) : Type 0 where
   pub accepted : checked s ≡ Accepted
   pub variables : Kept s ids (nodeCount s) count
-  pub named : Named list froms tos count
+  pub indexed : Indexed list froms tos digests count
   pub distinct : some (isAgain (names list)) count ≡ false
 
 -- after k entries, up to the place `at`
@@ -183,10 +235,11 @@ unfoldable pub valuesSaid : List ℕ → List ℕ → Judged
 valuesSaid s vs = firstSaid (contradictedAt s vs) (nodeCount s) next firstSaid (zeroAt s (evaluate (problem s) vs)) (rootCount s)
 
 -- an accepted problem, and lists of 1,024 places to work in
-pub record Judging (s froms tos ids given words values : List ℕ) : Type 0 where
+pub record Judging (s froms tos digests ids given words values : List ℕ) : Type 0 where
   pub accepted : checked s ≡ Accepted
   pub froms-room : length froms ≡ 1024
   pub tos-room : length tos ≡ 1024
+  pub digests-room : length digests ≡ 1024
   pub ids-room : length ids ≡ 1024
   pub no-marks : given ≡ zeros
   pub no-words : words ≡ zeros

@@ -7,7 +7,7 @@ use native.Mathlib.Omega.{arith}
 use native.Mathlib.Numerals.{add-one}
 use lib.Dec.{ltb, eqb, eqb·suc-suc}
 use lib.ListN.{length, getD, take, drop}
-use lib.Seq.{drop-cons, drop-length}
+use lib.Seq.{drop-cons, drop-length, drop-drop}
 use borrow.Author.Tests.{lt-ltb, le-ltb, eq-eqb, ne-eqb}
 use Rattle.texts.specs.Runs.{ascii, equal}
 use Rattle.texts.specs.declared.numbers.Number.{Number}
@@ -16,11 +16,16 @@ use Rattle.models.specs.declared.entries.Slot.{Slot}
 use Rattle.models.specs.declared.entries.Slot.the-variants.{Opens, Literal}
 use Rattle.models.specs.Tokens.{tokens}
 use Rattle.models.specs.Names.{inside}
-use Rattle.models.specs.Entries.{widthSaid, baseOf, literalWidth, fits, matches, heading, literal, decimal, entrySize, entryOf, body, stepOver, entriesIn, leftIn, isModel}
-use Rattle.models.specs.inner.Judging.{After, Begins, Ends, form, matchesPart}
+use Rattle.models.specs.declared.entries.Passed.{Passed}
+use Rattle.models.specs.declared.entries.Passed.the-variants as passes
+use Rattle.models.specs.declared.entries.Places.{Places}
+use Rattle.models.specs.declared.entries.Item.{Item}
+use Rattle.models.specs.Entries.{widthSaid, baseOf, literalWidth, fits, matches, heading, literal, decimal, entrySize, valueWidth, valueSaid, entryOf, body, stepOver, entriesIn, leftIn, isModel}
+use Rattle.models.specs.Judgement.{misfits}
+use Rattle.models.specs.inner.Judging.{After, Begins, Ends, form, matchesPart, PassedBy, Parts, EntryAt, ItemAt, small}
 use Rattle.models.specs.Pieces.{chop}
 use Rattle.models.specs.laws.Pieces.{chop-none, chop-front}
-use Rattle.models.specs.laws.Tokens.{after-moves}
+use Rattle.models.specs.laws.Tokens.{after-none, after-more, after-all, after-moves, token-at}
 
 form-length : length form ≡ 18
 unfolding form heading literal decimal
@@ -49,18 +54,67 @@ module _ (text : List ℕ) (place i last : ℕ) (slot : Slot) (t : List ℕ) (r 
       → whole ≡ matchesPart text next (i + 1) last
   slot-fits next whole y a w = w ∙ here ∙ rw (y, a .left)
 
-  pub slot-wrong : (whole : Bool) → r ≡ false → whole ≡ matchesPart text place i last → false ≡ whole
-  slot-wrong whole y w = sym (w ∙ here ∙ rw y)
+  pub slot-wrong : (whole : Bool) → r ≡ false → whole ≡ matchesPart text place i last → whole ≡ false
+  slot-wrong whole y w = w ∙ here ∙ rw y
 
-pub slots-end : (text : List ℕ) (place i last : ℕ) (whole : Bool) → whole ≡ matchesPart text place i last → last ≤ i → true ≡ whole
+pub slots-end : (text : List ℕ) (place i last : ℕ) (whole : Bool) → whole ≡ matchesPart text place i last → last ≤ i → whole ≡ true
 unfolding matches
-slots-end text place i last whole w h = sym (w ∙ rw (slots-none i last h))
+slots-end text place i last whole w h = w ∙ rw (slots-none i last h)
 
--- ---- how long an entry is
+-- the tokens that were passed so far
+pub passed-none : (text : List ℕ) (at first : ℕ) → at ≤ length text → After text at (first - first) at
+passed-none text at first h = let e : 0 ≡ first - first = omega arith in after-all text at 0 (first - first) at (after-none text at h) e
 
-heading-part : (ts : List (List ℕ)) → matches (take (10 - 0) (drop 0 form)) ts ≡ matches heading ts
+pub passed-more : (text : List ℕ) (at first i place next : ℕ) → After text at (i - first) place → first ≤ i → After text place 1 next
+    → After text at (i + 1 - first) next
+passed-more text at first i place next a h b =
+    let e : i - first + 1 ≡ i + 1 - first = omega arith in
+    after-all text at (i - first + 1) (i + 1 - first) next (after-more text at place next (i - first) 1 a b) e
+
+pub passed-end : (text : List ℕ) (at first i last place : ℕ) → After text at (i - first) place → i ≤ last → last ≤ i → After text at (last - first) place
+passed-end text at first i last place a h l =
+    let e : i - first ≡ last - first = omega arith in after-all text at (i - first) (last - first) place a e
+
+-- what a walk tells, by its answer
+pub passed-all : (text : List ℕ) (at first last : ℕ) (r : Passed) (p : ℕ) → PassedBy text at first last r → r ≡ passes.After p
+    → (matchesPart text at first last ≡ true) × After text at (last - first) p
+passed-all text at first last r p h e = rw e at h
+
+pub passed-not : (text : List ℕ) (at first last : ℕ) (r : Passed) → PassedBy text at first last r → r ≡ passes.Not
+    → matchesPart text at first last ≡ false
+passed-not text at first last r h e = rw e at h
+
+-- ---- an entry, part by part
+
+and-assoc : (a b c : Bool) → (a && b && c) ≡ (a && (b && c))
+and-assoc true b c = refl
+and-assoc false b c = refl
+
+drop-next : {A : Type 0} (n : ℕ) (l : List A) → drop n (drop 1 l) ≡ drop (suc n) l
+drop-next zero [] = refl
+drop-next (suc n) [] = refl
+drop-next n (x ∷ xs) = refl
+
+matches-append : (ps qs : List Slot) (ts : List (List ℕ)) → matches (ps ++ qs) ts ≡ (matches ps ts && matches qs (drop (length ps) ts))
+unfolding matches
+matches-append [] qs ts = refl
+matches-append (p ∷ ps) qs ts =
+    rw (matches-append ps qs (drop 1 ts), drop-next (length ps) ts)
+    (sym (and-assoc (fits p (getD ts 0 [])) (matches ps (drop 1 ts)) (matches qs (drop (suc (length ps)) ts))))
+
+heading-rest : (ts : List (List ℕ)) → matches (take (10 - 2) (drop 2 form)) ts ≡ (matches (take (8 - 2) (drop 2 form)) ts && matches (take (10 - 8) (drop 8 form)) (drop 6 ts))
 unfolding form heading literal decimal
-heading-part ts = refl
+heading-rest ts = matches-append (take (8 - 2) (drop 2 form)) (take (10 - 8) (drop 8 form)) ts
+
+heading-parts : (ts : List (List ℕ))
+    → matches heading ts
+    ≡ (matches (take (2 - 0) (drop 0 form)) ts
+    && (matches (take (8 - 2) (drop 2 form)) (drop 2 ts) && matches (take (10 - 8) (drop 8 form)) (drop 8 ts)))
+unfolding form heading literal decimal
+heading-parts ts =
+    matches-append (take (2 - 0) (drop 0 form)) (take (10 - 2) (drop 2 form)) ts
+    ∙ ap (λ (b : Bool). matches (take (2 - 0) (drop 0 form)) ts && b)
+    (heading-rest (drop 2 ts) ∙ ap (λ (us : List (List ℕ)). matches (take (8 - 2) (drop 2 form)) (drop 2 ts) && matches (take (10 - 8) (drop 8 form)) us) (drop-drop 6 2 ts))
 
 literal-part : (ts : List (List ℕ)) → matches (take (12 - 10) (drop 10 form)) ts ≡ matches literal ts
 unfolding form heading literal decimal
@@ -70,67 +124,111 @@ decimal-part : (ts : List (List ℕ)) → matches (take (18 - 12) (drop 12 form)
 unfolding form heading literal decimal
 decimal-part ts = refl
 
-module _ (text : List ℕ) (at : ℕ) (a : Bool) (p : a ≡ matchesPart text at 0 10) where
-  pub size-none : a ≡ false → 0 ≡ entrySize (tokens (drop at text))
+abbrev nowhere : Places
+nowhere = record { name = 0; sort = 0; value = 0; end = 0; size = 0 }
+
+module _ (text : List ℕ) (at : ℕ) where
+  abbrev ts : List (List ℕ)
+  ts = tokens (drop at text)
+
+  none-at : 0 ≡ entrySize ts → EntryAt text at nowhere
+  none-at e = record { size = e; parts = λ x. absurd (x refl) }
+
+  pub not-first : matchesPart text at 0 2 ≡ false → EntryAt text at nowhere
   unfolding entrySize
-  size-none x = rw (← heading-part (tokens (drop at text)), ← p, x)
+  not-first x = none-at (rw (heading-parts ts, x))
 
-  module _ (value : ℕ) (f : After text at 10 value) (b : Bool) (q : b ≡ matchesPart text value 10 12) (x : a ≡ true) where
-    headed : matches heading (tokens (drop at text)) ≡ true
-    headed = sym (heading-part (tokens (drop at text))) ∙ sym p ∙ x
+  module _ (name : ℕ) (x : (matchesPart text at 0 2 ≡ true) × After text at 2 name) where
+    second : matches (take (8 - 2) (drop 2 form)) (drop 2 ts) ≡ matchesPart text name 2 8
+    second = rw (← x .1 .left)
 
-    as-literal : matches literal (drop 10 (tokens (drop at text))) ≡ b
-    as-literal = rw (← f .left) (sym (literal-part (tokens (drop value text))) ∙ sym q)
-
-    pub size-literal : b ≡ true → 12 ≡ entrySize (tokens (drop at text))
+    pub not-second : matchesPart text name 2 8 ≡ false → EntryAt text at nowhere
     unfolding entrySize
-    size-literal y = rw (headed, as-literal, y)
+    not-second y = none-at (rw (heading-parts ts, x .0, second, y))
 
-    module _ (c : Bool) (u : c ≡ matchesPart text value 12 18) (y : b ≡ false) where
-      as-decimal : matches decimal (drop 10 (tokens (drop at text))) ≡ c
-      as-decimal = rw (← f .left) (sym (decimal-part (tokens (drop value text))) ∙ sym u)
+    module _ (sort : ℕ) (y : (matchesPart text name 2 8 ≡ true) × After text name 6 sort) where
+      to-sort : After text at 8 sort
+      to-sort = after-more text at name sort 2 6 (x .1) (y .1)
 
-      pub size-decimal : c ≡ true → 16 ≡ entrySize (tokens (drop at text))
+      third : matches (take (10 - 8) (drop 8 form)) (drop 8 ts) ≡ matchesPart text sort 8 10
+      third = rw (← to-sort .left)
+
+      pub not-third : matchesPart text sort 8 10 ≡ false → EntryAt text at nowhere
       unfolding entrySize
-      size-decimal z = rw (headed, as-literal, y, as-decimal, z)
+      not-third z = none-at (rw (heading-parts ts, x .0, second, y .0, third, z))
 
-      pub size-neither : c ≡ false → 0 ≡ entrySize (tokens (drop at text))
-      unfolding entrySize
-      size-neither z = rw (headed, as-literal, y, as-decimal, z)
+      module _ (value : ℕ) (z : (matchesPart text sort 8 10 ≡ true) × After text sort 2 value) where
+        to-value : After text at 10 value
+        to-value = after-more text at sort value 8 2 to-sort (z .1)
 
--- ---- what an entry says
+        headed : matches heading ts ≡ true
+        headed = rw (heading-parts ts, x .0, second, y .0, third, z .0)
 
-module _ (ts : List (List ℕ)) where
-  pub says-name : (t n : List ℕ) → t ≡ getD ts 2 [] → n ≡ inside t → n ≡ entryOf ts .name
+        as-literal : matches literal (drop 10 ts) ≡ matchesPart text value 10 12
+        as-literal = rw (← to-value .left) (sym (literal-part (tokens (drop value text))))
+
+        as-decimal : matches decimal (drop 10 ts) ≡ matchesPart text value 12 18
+        as-decimal = rw (← to-value .left) (sym (decimal-part (tokens (drop value text))))
+
+        -- an entry of so many tokens
+        found-at : (n end : ℕ) → n ≡ entrySize ts → After text at n end → EntryAt text at (record { name = name; sort = sort; value = value; end = end; size = n })
+        found-at n end e a = record { size = e; parts = λ _. record { name = x .1; sort = to-sort; value = to-value; end = a } }
+
+        pub with-literal : (end : ℕ) → (matchesPart text value 10 12 ≡ true) × After text value 2 end
+            → EntryAt text at (record { name = name; sort = sort; value = value; end = end; size = 12 })
+        unfolding entrySize
+        with-literal end u = found-at 12 end (rw (headed, as-literal, u .0)) (after-more text at value end 10 2 to-value (u .1))
+
+        pub with-decimal : (end : ℕ) → matchesPart text value 10 12 ≡ false → (matchesPart text value 12 18 ≡ true) × After text value 6 end
+            → EntryAt text at (record { name = name; sort = sort; value = value; end = end; size = 16 })
+        unfolding entrySize
+        with-decimal end v u =
+            found-at 16 end (rw (headed, as-literal, v, as-decimal, u .0)) (after-more text at value end 10 6 to-value (u .1))
+
+        pub with-neither : matchesPart text value 10 12 ≡ false → matchesPart text value 12 18 ≡ false → EntryAt text at nowhere
+        unfolding entrySize
+        with-neither v u = none-at (rw (headed, as-literal, v, as-decimal, u))
+
+-- ---- what a value says, of the tokens from it on
+
+module _ (us : List (List ℕ)) (t : List ℕ) (w : ℕ) (e : t ≡ getD us 0 []) (h : w ≡ literalWidth t) where
+  fits-literal : fits Literal (getD us 0 []) ≡ ltb 0 w
+  unfolding fits
+  fits-literal = rw (h, e)
+
+  pub says-width : 0 < w → w ≡ valueWidth us
+  unfolding valueWidth
+  says-width l = rw (fits-literal, lt-ltb 0 w l) (h ∙ rw e)
+
+  pub says-other-width : (u : List ℕ) (v : ℕ) → w ≤ 0 → u ≡ getD us 3 [] → v ≡ widthSaid u → v ≡ valueWidth us
+  unfolding valueWidth
+  says-other-width u v l k g = rw (fits-literal, le-ltb 0 w l) (g ∙ rw k)
+
+  pub says-value : 0 < w → (base : ℕ) (d : List ℕ) (r : Number) → base ≡ baseOf t → d ≡ drop 2 t → r ≡ numbered (valueIn base d)
+      → r ≡ numbered (valueSaid us)
+  unfolding valueSaid
+  says-value l base d r p q k = k ∙ rw (fits-literal, lt-ltb 0 w l, p, q, e)
+
+  pub says-decimal : (u d : List ℕ) (r : Number) → w ≤ 0 → u ≡ getD us 2 [] → d ≡ drop 2 u → r ≡ numbered (valueIn 10 d)
+      → r ≡ numbered (valueSaid us)
+  unfolding valueSaid
+  says-decimal u d r l q p k = k ∙ rw (fits-literal, le-ltb 0 w l, p, q)
+
+-- ---- what an entry says, by the places of its parts
+
+module _ (text : List ℕ) (at : ℕ) (r : Places) (p : Parts text at r) where
+  pub entry-name : (n : List ℕ) → n ≡ inside (getD (tokens (drop (r .name) text)) 0 []) → n ≡ entryOf (tokens (drop at text)) .name
   unfolding entryOf
-  says-name t n e h = h ∙ rw e
+  entry-name n h = h ∙ ap inside (token-at text at 2 (r .name) _ (p .name) refl)
 
-  pub says-sort : (t : List ℕ) (w : ℕ) → t ≡ getD ts 8 [] → w ≡ widthSaid t → w ≡ entryOf ts .sort
-  unfolding entryOf
-  says-sort t w e h = h ∙ rw e
+  module _ (w : ℕ) (i : Item) (h : ItemAt text (r .sort) (r .value) w i) where
+    pub entry-unfit : i .unfit ≡ misfits w (entryOf (tokens (drop at text)))
+    unfolding entryOf misfits
+    entry-unfit = h .unfit ∙ rw (p .value .left, token-at text at 8 (r .sort) _ (p .sort) refl)
 
-  module _ (t : List ℕ) (w : ℕ) (e : t ≡ getD ts 10 []) (h : w ≡ literalWidth t) where
-    fits-literal : fits Literal (getD ts 10 []) ≡ ltb 0 w
-    unfolding fits
-    fits-literal = rw (h, e)
-
-    pub says-width : 0 < w → w ≡ entryOf ts .width
+    pub entry-word : i .word ≡ small (numbered (entryOf (tokens (drop at text)) .value))
     unfolding entryOf
-    says-width l = rw (fits-literal, lt-ltb 0 w l) (h ∙ rw e)
-
-    pub says-other-width : (u : List ℕ) (v : ℕ) → w ≤ 0 → u ≡ getD ts 13 [] → v ≡ widthSaid u → v ≡ entryOf ts .width
-    unfolding entryOf
-    says-other-width u v l k g = rw (fits-literal, le-ltb 0 w l) (g ∙ rw k)
-
-    pub says-value : 0 < w → (base : ℕ) (d : List ℕ) (r : Number) → base ≡ baseOf t → d ≡ drop 2 t → r ≡ numbered (valueIn base d)
-        → r ≡ numbered (entryOf ts .value)
-    unfolding entryOf
-    says-value l base d r p q k = k ∙ rw (fits-literal, lt-ltb 0 w l, p, q, e)
-
-    pub says-decimal : (u d : List ℕ) (r : Number) → w ≤ 0 → u ≡ getD ts 12 [] → d ≡ drop 2 u → r ≡ numbered (valueIn 10 d)
-        → r ≡ numbered (entryOf ts .value)
-    unfolding entryOf
-    says-decimal u d r l q p k = k ∙ rw (fits-literal, le-ltb 0 w l, p, q)
+    entry-word = h .word ∙ rw (p .value .left)
 
 -- ---- entry by entry
 

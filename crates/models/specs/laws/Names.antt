@@ -12,11 +12,11 @@ use lib.ListN.{length, getD, set, take, drop, length-take, length-drop, length-s
 use lib.Seq.{length-take-le, drop-cons, drop-drop, take-take, getD-set-same, getD-set-other}
 use borrow.Author.Tests.{le-leb, lt-leb, lt-ltb, le-ltb}
 use Rattle.texts.specs.Runs.{isDigit, isIn, runLength, equal}
-use Rattle.texts.specs.laws.Runs.{run-inside, run-short}
+use Rattle.texts.specs.laws.Runs.{run-inside, run-short, equal-same}
 use Rattle.texts.specs.declared.runs.Class.the-variants.{Clean, Symbol, Line}
 use Rattle.models.specs.declared.names.NameLine.{NameLine}
 use Rattle.models.specs.Names.{isBarred, inside, isSimple, isQuoted, isName, lineLength, names, position, isAgain, some}
-use Rattle.models.specs.inner.Judging.{Within, part, OnLine, NamedAt, Placed, Listed, Named}
+use Rattle.models.specs.inner.Judging.{Within, part, OnLine, NamedAt, Placed, Listed, Named, digestMore, digestFrom, digestOf, Digested, Indexed}
 use Rattle.models.specs.laws.Pieces.{drop-min, chop-none, chop-front}
 
 -- ---- bars
@@ -211,16 +211,16 @@ position-at : (n : List ℕ) (ns : List (List ℕ)) (k : ℕ) → k < length ns
 unfolding position
 position-at n ns k h = rw (drop-cons ns k [] h)
 
-module _ (n : List ℕ) (ns : List (List ℕ)) (k : ℕ) (t : Bool) (m : List ℕ) (e : m ≡ getD ns k []) (q : t ≡ equal m n) where
+module _ (n : List ℕ) (ns : List (List ℕ)) (k : ℕ) (t : Bool) (q : t ≡ equal (getD ns k []) n) where
   pub position-turn : t ≡ false → k < length ns → k + position n (drop k ns) ≡ position n ns
       → (k + 1) + position n (drop (k + 1) ns) ≡ position n ns
   position-turn y h i =
-      let f : position n (drop k ns) ≡ suc (position n (drop (suc k) ns)) = position-at n ns k h ∙ rw (← e, ← q, y) in
+      let f : position n (drop k ns) ≡ suc (position n (drop (suc k) ns)) = position-at n ns k h ∙ rw (← q, y) in
       rw add-one (omega (arith, f, i))
 
   pub position-here : t ≡ true → k < length ns → k + position n (drop k ns) ≡ position n ns → k ≡ position n ns
   position-here y h i =
-      let f : position n (drop k ns) ≡ 0 = position-at n ns k h ∙ rw (← e, ← q, y) in
+      let f : position n (drop k ns) ≡ 0 = position-at n ns k h ∙ rw (← q, y) in
       omega (arith, f, i)
 
 pub position-over : (n : List ℕ) (ns : List (List ℕ)) (k : ℕ) → k + position n (drop k ns) ≡ position n ns → length ns ≤ k → k ≡ position n ns
@@ -269,6 +269,54 @@ placed-at list froms tos count n k h = n .placed k h
 pub part-is : (list : List ℕ) (k from to : ℕ) → NamedAt list k from to → take (to - from) (drop from list) ≡ getD (names list) k []
 unfolding part
 part-is list k from to n = n .name
+
+-- ---- digests
+
+pub digest-starts : (t : List ℕ) → digestFrom 0 (drop 0 t) ≡ digestOf t
+unfolding digestOf
+digest-starts t = refl
+
+pub digest-turn : (t : List ℕ) (i d e : ℕ) → digestFrom d (drop i t) ≡ digestOf t → i < length t → e ≡ digestMore d (getD t i 0)
+    → digestFrom e (drop (i + 1) t) ≡ digestOf t
+unfolding digestFrom
+digest-turn t i d e k h q = rw (add-one, q) (rw (drop-cons t i 0 h) at k)
+
+pub digest-end : (t : List ℕ) (i d : ℕ) → digestFrom d (drop i t) ≡ digestOf t → length t ≤ i → d ≡ digestOf t
+unfolding digestFrom
+digest-end t i d k h = rw (drop-of-length-le t h) at k
+
+pub digested-none : (list digests : List ℕ) → Digested list digests 0
+unfolding Digested
+digested-none list digests j h = absurd (not-suc-le-zero h)
+
+pub digested-more : (list digests : List ℕ) (k d : ℕ) (m : List ℕ) → Digested list digests k → k < length digests → m ≡ getD (names list) k []
+    → d ≡ digestOf m
+    → Digested list (set digests k d) (k + 1)
+unfolding Digested
+digested-more list digests k d m p a e q j h =
+    elim (ℕ-discrete j k) [
+      | yes i ↦ rw (i, getD-set-same digests k d 0 a) (q ∙ ap digestOf e)
+      | no x ↦ rw (getD-set-other digests k j d 0 x) (p j (omega arith))
+    ]
+
+pub indexed-all : (list froms tos digests : List ℕ) (k count : ℕ) → Named list froms tos count → count ≤ length digests → Digested list digests k
+    → k ≤ count
+    → count ≤ k
+    → Indexed list froms tos digests count
+indexed-all list froms tos digests k count n r d a b =
+    let e : k ≡ count = omega arith in record { named = n; room = r; digested = rw e at d }
+
+-- names whose digests differ are not the same
+pub digests-differ : (list froms tos digests : List ℕ) (count k d : ℕ) (n : List ℕ) → Indexed list froms tos digests count → k < count
+    → d ≡ digestOf n
+    → (getD digests k 0 ≡ d → ⊥)
+    → false ≡ equal (getD (names list) k []) n
+unfolding Digested
+digests-differ list froms tos digests count k d n x h q u = by (equal (getD (names list) k []) n) refl
+  where
+    by : (t : Bool) → equal (getD (names list) k []) n ≡ t → false ≡ equal (getD (names list) k []) n
+    by true e = absurd (u (x .digested k h ∙ ap digestOf (equal-same (getD (names list) k []) n e) ∙ sym q))
+    by false e = sym e
 
 -- ---- a name that stands earlier
 

@@ -16,7 +16,7 @@ use Rattle.texts.specs.declared.numbers.Number.the-variants.{Small, Huge}
 use Rattle.texts.specs.Runs.{ascii, equal}
 use Rattle.texts.specs.Numbers.{digitOf, allIn, digitsIn, valueIn, numbered}
 use Rattle.texts.specs.laws.Numbers.{small-is, huge-is, numbered-small, numbered-huge}
-use Rattle.models.specs.Entries.{isNumeral, upTo64, widthSaid, baseOf, literalWidth, isDecimal, Entry, isLiteral, entryOf}
+use Rattle.models.specs.Entries.{isNumeral, upTo64, widthSaid, baseOf, literalWidth, isDecimal, Entry, isLiteral, valueWidth}
 use Rattle.models.specs.Judgement.{misfits}
 use Rattle.models.specs.inner.Judging.{overflows, small}
 
@@ -159,11 +159,11 @@ over-huge n w e = rw e
 pub over-small : (n : Number) (v w : ℕ) (r : Bool) → n ≡ Small v → r ≡ leb (2 ^ w) v → r ≡ overflows n w
 over-small n v w r e h = rw e h
 
-pub small-some : (n v : ℕ) (x : Number) → x ≡ numbered n → x ≡ Small v → v ≡ small (numbered n)
-small-some n v x q e = rw (← q, e)
+pub small-some : (v : ℕ) (x : Number) → x ≡ Small v → v ≡ small x
+small-some v x e = rw e
 
-pub small-none : (n : ℕ) (x : Number) → x ≡ numbered n → x ≡ Huge → 0 ≡ small (numbered n)
-small-none n x q e = rw (← q, e)
+pub small-none : (x : Number) → x ≡ Huge → 0 ≡ small x
+small-none x e = rw e
 
 -- what 64 bits hold is the number itself
 pub small-is-it : (n : ℕ) → n < 2 ^ 64 → small (numbered n) ≡ n
@@ -212,6 +212,6 @@ literal-most : (t : List ℕ) → literalWidth t ≤ 64
 unfolding literalWidth
 literal-most t = cond-most (digitsIn (baseOf t) (drop 2 t)) (upTo64 _) 0 (up-most _) (omega arith)
 
-pub width-most : (ts : List (List ℕ)) → entryOf ts .width ≤ 64
-unfolding entryOf
-width-most ts = cond-most (isLiteral ts) (literalWidth (getD ts 10 [])) (widthSaid (getD ts 13 [])) (literal-most (getD ts 10 [])) (said-most (getD ts 13 []))
+pub width-most : (us : List (List ℕ)) → valueWidth us ≤ 64
+unfolding valueWidth
+width-most us = cond-most (isLiteral us) (literalWidth (getD us 0 [])) (widthSaid (getD us 3 [])) (literal-most (getD us 0 [])) (said-most (getD us 3 []))

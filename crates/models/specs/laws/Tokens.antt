@@ -1,6 +1,6 @@
 -- Laws of tokens: what stands at a place of a text.
 use mathlib.Core.Path.{_≡_, refl, sym, ap, _∙_}
-use mathlib.Core.Bool.{Bool, true, false, cond, not, _||_, true≢false}
+use mathlib.Core.Bool.{Bool, true, false, cond, not, _||_, false≢true, true≢false}
 use mathlib.Core.List.{List, [], _∷_, _++_}
 use Prim.Native.Nat.{ℕ, zero, suc, _+_, _-_, _≤_, _<_, min}
 use native.Mathlib.Omega.{arith}
@@ -145,6 +145,30 @@ module _ (text : List ℕ) (at b : ℕ) (q : b ≡ getD text at 0) (t : Bool) (x
   pub ends-byte : at + 1 ≡ min (at + pieceLength (drop at text)) (length text)
   unfolding pieceLength
   ends-byte = rw (here text at b q, ne-eqb b 59 x, ne-eqb b 124 y, ← w, u) (omega (arith, ends-there))
+
+-- a gap is a comment, or a byte of white space, which is no bar and in no bare token
+white-plain : (b : ℕ) → isGap b ≡ true → (b ≡ 59 → ⊥) → (b ≡ 124 → ⊥) × (isIn Bare b ≡ false)
+unfolding isGap isIn isWhite
+white-plain b g x =
+    let w : isWhite b ≡ true = left-of (isWhite b) (eqb b 59) g (ne-eqb b 59 x) in
+    (λ e. false≢true (rw e at w), rw (white-true b w))
+  where
+    left-of : (p q : Bool) → (p || q) ≡ true → q ≡ false → p ≡ true
+    left-of true q h k = refl
+    left-of false q h k = absurd (false≢true (sym k ∙ h))
+
+    white-true : (b : ℕ) → isWhite b ≡ true → (eqb b 32 || eqb b 9 || eqb b 10 || eqb b 13) ≡ true
+    white-true b h = h
+
+module _ (text : List ℕ) (at : ℕ) (h : at < length text) where
+  pub gap-comment : (e : ℕ) → getD text at 0 ≡ 59 → e ≡ at + runLength (isIn Comment) (drop at text)
+      → e ≡ min (at + pieceLength (drop at text)) (length text)
+  gap-comment e y k = ends-comment text at e (getD text at 0) refl y (omega arith) k
+
+  pub gap-white : isGap (getD text at 0) ≡ true → (getD text at 0 ≡ 59 → ⊥) → at + 1 ≡ min (at + pieceLength (drop at text)) (length text)
+  gap-white g x =
+      let w = white-plain (getD text at 0) g x in
+      ends-byte text at (getD text at 0) refl (isIn Bare (getD text at 0)) x (w .0) refl (w .1)
 
 -- ---- the next token
 

@@ -92,7 +92,7 @@ below-length ids words values k id e h = omega (arith, ap length e, placed-lengt
 
 -- ---- 35 and the values, where the entries are all known, given once, and fit
 
-module _ (s list text froms tos ids given words : List ℕ) (count : ℕ) (p : Prepared s list froms tos ids count)
+module _ (s list text froms tos digests ids given words : List ℕ) (count : ℕ) (p : Prepared s list froms tos digests ids count)
     (said : entriesSaid s (names list) (entries text) ≡ Yes)
     (marked : given ≡ marksUp (names list) (entries text) (length (entries text)))
     (worded : words ≡ wordsUp (names list) (entries text) (length (entries text))) where
@@ -112,7 +112,7 @@ module _ (s list text froms tos ids given words : List ℕ) (count : ℕ) (p : P
   nodes-few = accepted-facts s (p .accepted) .header .nodes
 
   count-is : count ≡ length ns
-  count-is = p .named .all
+  count-is = p .indexed .named .all
 
   names-few : length ns ≤ 1024
   names-few = omega (arith, nodes-few, count-is, p .variables .few)
@@ -259,28 +259,28 @@ module _ (text : List ℕ) (m : Bool) (q : m ≡ isModel text) where
   model-right j r h k = k ∙ sym (next-yes (refuse 31 0 (not (isModel text))) j (refuse-not 31 0 (not (isModel text)) (ap not (sym q) ∙ h)))
 
 -- what judge_values asks
-module _ (s list text froms tos ids given words values : List ℕ) (count : ℕ) (p : Prepared s list froms tos ids count) (r : Judged)
+module _ (s list text froms tos digests ids given words values : List ℕ) (count : ℕ) (p : Prepared s list froms tos digests ids count) (r : Judged)
     (d : Read s list text given words r) (y : isYes r ≡ true) where
   pub given-room : count ≤ length given
   given-room =
-      omega (arith, few-names s list froms tos ids count p .1, ap length (d .marked (yes-is r y)), marks-length (names list) (entries text) (length (entries text)))
+      omega (arith, few-names s list froms tos digests ids count p .1, ap length (d .marked (yes-is r y)), marks-length (names list) (entries text) (length (entries text)))
 
   pub placing : values ≡ zeros → Placing ids words values count
   placing z =
       record {
-        ids-room = few-names s list froms tos ids count p .2;
+        ids-room = few-names s list froms tos digests ids count p .2;
         words-room =
-            omega (arith, few-names s list froms tos ids count p .1, ap length (d .worded (yes-is r y)), words-length (names list) (entries text) (length (entries text)));
+            omega (arith, few-names s list froms tos digests ids count p .1, ap length (d .worded (yes-is r y)), words-length (names list) (entries text) (length (entries text)));
         none = z;
         below = λ k l.
-            rw (variable-at s ids count (p .variables) (few-names s list froms tos ids count p .0) k l)
-            (let i = variable-below s ids count (p .variables) (few-names s list froms tos ids count p .0) k l in
-            omega (arith, few-names s list froms tos ids count p .0));
+            rw (variable-at s ids count (p .variables) (few-names s list froms tos digests ids count p .0) k l)
+            (let i = variable-below s ids count (p .variables) (few-names s list froms tos digests ids count p .0) k l in
+            omega (arith, few-names s list froms tos digests ids count p .0));
       }
 
   pub text-judged : (t : Judged) → t ≡ (firstSaid (unmarkedAt ids given) count next valuesSaid s (placedUp ids words count)) → t ≡ judgedEntries s (names list) (entries text)
   text-judged t q =
-      values-judged s list text froms tos ids given words count p (sym (d .said) ∙ yes-is r y) (d .marked (yes-is r y)) (d .worded (yes-is r y)) t q
+      values-judged s list text froms tos digests ids given words count p (sym (d .said) ∙ yes-is r y) (d .marked (yes-is r y)) (d .worded (yes-is r y)) t q
 
 -- 30
 module _ (s list froms tos ids : List ℕ) (count named : ℕ) (a : checked s ≡ Accepted) (k : Kept s ids (nodeCount s) count) (l : Listed list froms tos named) where
@@ -292,6 +292,9 @@ module _ (s list froms tos ids : List ℕ) (count named : ℕ) (a : checked s �
   wrong-count x =
       rw (ne-eqb (length (names list)) (length (variables s))
       (λ e. x (omega (arith, e, l .count, variable-count s ids count k nodes, k .few, nodes))))
+
+  pub digests-room : (digests : List ℕ) → length digests ≡ 1024 → count ≤ length digests
+  digests-room digests h = omega (arith, k .few, nodes)
 
   module _ (e : named ≡ count) where
     counted : length (names list) ≡ count

@@ -83,8 +83,8 @@ module _ (s ids : List ℕ) (count : ℕ) (q : Kept s ids (nodeCount s) count) (
   unfolding variables
   variable-below k l = below s (nodeCount s) k (omega (arith, sym (ap length (q .kept)) ∙ length-take-le count ids (omega (arith, q .room, q .few))))
 
-pub few-names : (s list froms tos ids : List ℕ) (count : ℕ) → Prepared s list froms tos ids count → (nodeCount s ≤ 1024) × (count ≤ 1024) × (count ≤ length ids)
-few-names s list froms tos ids count p =
+pub few-names : (s list froms tos digests ids : List ℕ) (count : ℕ) → Prepared s list froms tos digests ids count → (nodeCount s ≤ 1024) × (count ≤ 1024) × (count ≤ length ids)
+few-names s list froms tos digests ids count p =
     let n : nodeCount s ≤ 1024 = accepted-facts s (p .accepted) .header .nodes in
     (n, omega (arith, p .variables .few), omega (arith, p .variables .few, p .variables .room))
 

@@ -18,7 +18,7 @@ use Rattle.models.specs.declared.Judged.the-variants.{Yes, No, Refused}
 use Rattle.models.specs.Pieces.{chop}
 use Rattle.models.specs.Tokens.{pieceLength, isGap, tokenAt, tokens}
 use Rattle.models.specs.Names.{isBarred, inside, lineLength, names, position, isAgain, some, isSimple, isQuoted, isName}
-use Rattle.models.specs.Entries.{isNumeral, upTo64, widthSaid, baseOf, literalWidth, isDecimal, fits, matches, heading, literal, decimal, entrySize, noEntry, entryOf, body, stepOver, entriesIn, leftIn, isModel, entries}
+use Rattle.models.specs.Entries.{isNumeral, upTo64, widthSaid, baseOf, literalWidth, isDecimal, fits, matches, heading, literal, decimal, entrySize, noEntry, valueWidth, valueSaid, entryOf, body, stepOver, entriesIn, leftIn, isModel, entries}
 use Rattle.models.specs.Judgement.{refuse, _next_, firstSaid, variablesBelow, variables, listWrong, unknownAt, againAt, misfits, misfitAt, absentAt, assignedUp, assigned, contradictedAt, zeroAt, judgedEntries, judgedText}
 
 -- a number below 256 in so many bytes more than one
@@ -142,5 +142,5 @@ table =
     ∷ []
 
 pub tried : T (right table)
-unfolding bitOutside nodeOf nodeAt widthAt rootAt le16 le32 le64 problem zeros three spotOf valueOf evalUp evaluate ascii isLower runLength equal digitOf allIn digitsIn valueFrom valueIn chop isOneOf isSymbolByte isWhite isIn pieceLength isGap tokenAt tokens isBarred inside lineLength names position isAgain some isSimple isQuoted isName isNumeral upTo64 widthSaid baseOf literalWidth isDecimal fits matches heading literal decimal entrySize noEntry entryOf body stepOver entriesIn leftIn isModel entries refuse _next_ firstSaid variablesBelow variables listWrong unknownAt againAt misfits misfitAt absentAt assignedUp assigned contradictedAt zeroAt judgedEntries judgedText right
+unfolding bitOutside nodeOf nodeAt widthAt rootAt le16 le32 le64 problem zeros three spotOf valueOf evalUp evaluate ascii isLower runLength equal digitOf allIn digitsIn valueFrom valueIn chop isOneOf isSymbolByte isWhite isIn pieceLength isGap tokenAt tokens isBarred inside lineLength names position isAgain some isSimple isQuoted isName isNumeral upTo64 widthSaid baseOf literalWidth isDecimal fits matches heading literal decimal entrySize noEntry valueWidth valueSaid entryOf body stepOver entriesIn leftIn isModel entries refuse _next_ firstSaid variablesBelow variables listWrong unknownAt againAt misfits misfitAt absentAt assignedUp assigned contradictedAt zeroAt judgedEntries judgedText right
 tried = tt

@@ -1,11 +1,10 @@
 -- The loop's invariant: what is left after the entries from `at` on is what is left after all.
-use mathlib.Core.Path.{_≡_, refl, sym, _∙_}
+use mathlib.Core.Path.{_≡_, refl, sym, ap, _∙_}
 use native.Mathlib.Omega.{arith}
 use borrow.Author.Needs.{needs}
-use Prim.Native.Nat.{_-_, _≤_}
-use mathlib.Core.Path.{ap}
-use lib.ListN.{length, drop}
 use denote.Ref.{now}
+use Prim.Native.Nat.{_-_, _≤_}
+use lib.ListN.{length, drop}
 use Rattle.models.specs.Tokens.{tokens}
 use Rattle.models.specs.Entries.{body, leftIn}
 use Rattle.models.specs.laws.Entries.{ends-here, ends-later, entry-moves}
@@ -24,20 +23,27 @@ body-start-requires c κs = search needs
 loop-holds : tie.Need-loop-holds Inv-loop μ-loop
 loop-holds c = (c .body-start .ensures .inside, ap leftIn (c .body-start .ensures .left))
 
-entry-size-requires : tie.Need-entry-size-requires Inv-loop μ-loop
-entry-size-requires c κs = omega arith
+entry-at-requires : tie.Need-entry-at-requires Inv-loop μ-loop
+entry-at-requires c κs = omega arith
 
 returns : tie.Need-returns Inv-loop μ-loop
-returns c = ends-here _ _ _ (c .before .before .loop .inv .0) (c .before .before .loop .inv .1) (c .before .entry-size .ensures) (c .if1 .taken)
-
-after-requires : tie.Need-after-requires Inv-loop μ-loop
-after-requires c κs = omega arith
+returns c = ends-here _ _ _ (c .before .before .before .loop .inv .0) (c .before .before .before .loop .inv .1) (c .before .before .entry-at .ensures .size) (c .if1 .taken)
 
 loop-less : tie.Need-loop-less Inv-loop μ-loop
-loop-less c = omega (arith, entry-moves (now (c .before .before .before .before .before .before .args .text)) (c .before .before .before .loop .at) _ (c .after .result) (c .before .before .entry-size .ensures) (c .before .if1 .left) (c .after .ensures), c .after .ensures .inside)
+loop-less c = omega (arith, entry-moves (now (c .before .before .before .before .before .before .args .text)) (c .before .before .before .loop .at) _ _ (c .before .before .entry-at .ensures .size) (c .if1 .left) (c .before .before .entry-at .ensures .parts (c .if1 .left) .end), (c .before .before .entry-at .ensures .parts (c .if1 .left) .end) .inside)
 
 loop-again : tie.Need-loop-again Inv-loop μ-loop
-loop-again c = (c .after .ensures .inside, ends-later (now (c .before .before .before .before .before .before .args .text)) (c .before .before .before .loop .at) _ _ (c .before .before .before .loop .inv .1) (c .before .before .entry-size .ensures) (c .before .if1 .left) (c .after .ensures))
+loop-again c = ((c .before .before .entry-at .ensures .parts (c .if1 .left) .end) .inside, ends-later (now (c .before .before .before .before .before .before .args .text)) (c .before .before .before .loop .at) _ _ (c .before .before .before .loop .inv .1) (c .before .before .entry-at .ensures .size) (c .if1 .left) (c .before .before .entry-at .ensures .parts (c .if1 .left) .end))
 
 pub entries-end-spec : {M : Type 1} → statement M
-entries-end-spec = tie.close (tie.spec Inv-loop μ-loop body-start-requires loop-holds entry-size-requires returns after-requires loop-less loop-again)
+entries-end-spec =
+    tie.close
+    (tie.spec
+    Inv-loop
+    μ-loop
+    body-start-requires
+    loop-holds
+    entry-at-requires
+    returns
+    loop-less
+    loop-again)

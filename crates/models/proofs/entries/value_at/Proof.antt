@@ -1,5 +1,5 @@
 -- A literal's digits, or those of the decimal.
-use mathlib.Core.Path.{_≡_, refl, sym, _∙_}
+use mathlib.Core.Path.{_≡_, refl, sym, ap, _∙_}
 use native.Mathlib.Omega.{arith}
 use borrow.Author.Needs.{needs}
 use Rattle.models.specs.laws.Numbers.{literal-base}
@@ -7,8 +7,8 @@ use Rattle.models.specs.laws.Entries.{says-value, says-decimal}
 use Rattle.models.proofs.entries.value_at.Statement.{statement}
 use Rattle.models.proofs.entries.value_at.Tie as tie
 
-token-requires : tie.Need-token-requires
-token-requires c κs = search needs
+first-token-requires : tie.Need-first-token-requires
+first-token-requires c κs = search needs
 
 literal-width-requires : tie.Need-literal-width-requires
 literal-width-requires c κs = search needs
@@ -23,10 +23,10 @@ value-in-requires : tie.Need-value-in-requires
 value-in-requires c κs = literal-base _ _ _ (c .before .before .before .literal-width .ensures) (c .before .before .if1 .taken) (c .before .base-of .ensures)
 
 returns : tie.Need-returns
-returns c = says-value _ _ _ (c .before .before .before .before .before .token .ensures) (c .before .before .before .before .literal-width .ensures) (c .before .before .before .if1 .taken) _ _ _ (c .before .before .base-of .ensures) (c .before .beyond .ensures) (c .value-in .ensures)
+returns c = says-value _ _ _ (c .before .before .before .before .before .first-token .ensures) (c .before .before .before .before .literal-width .ensures) (c .before .before .before .if1 .taken) _ _ _ (c .before .before .base-of .ensures) (c .before .beyond .ensures) (c .value-in .ensures)
 
-token-requires-2 : tie.Need-token-requires-2
-token-requires-2 c κs = search needs
+token-requires : tie.Need-token-requires
+token-requires c κs = search needs
 
 beyond-requires-2 : tie.Need-beyond-requires-2
 beyond-requires-2 c κs = search needs
@@ -35,7 +35,19 @@ value-in-requires-2 : tie.Need-value-in-requires-2
 value-in-requires-2 c κs = search needs
 
 returns-2 : tie.Need-returns-2
-returns-2 c = says-decimal _ _ _ (c .before .before .before .before .before .token .ensures) (c .before .before .before .before .literal-width .ensures) _ _ _ (c .before .before .before .if1 .left) (c .before .before .token2 .ensures) (c .before .beyond2 .ensures) (c .value-in2 .ensures)
+returns-2 c = says-decimal _ _ _ (c .before .before .before .before .before .first-token .ensures) (c .before .before .before .before .literal-width .ensures) _ _ _ (c .before .before .before .if1 .left) (c .before .before .token .ensures) (c .before .beyond2 .ensures) (c .value-in2 .ensures)
 
 pub value-at-spec : {M : Type 1} → statement M
-value-at-spec = tie.close (tie.spec token-requires literal-width-requires base-of-requires beyond-requires value-in-requires returns token-requires-2 beyond-requires-2 value-in-requires-2 returns-2)
+value-at-spec =
+    tie.close
+    (tie.spec
+    first-token-requires
+    literal-width-requires
+    base-of-requires
+    beyond-requires
+    value-in-requires
+    returns
+    token-requires
+    beyond-requires-2
+    value-in-requires-2
+    returns-2)

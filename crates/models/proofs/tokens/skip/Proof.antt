@@ -1,5 +1,5 @@
 -- The loop's invariant: the tokens from i on are those from `at` on.
-use mathlib.Core.Path.{_≡_, refl, sym, _∙_}
+use mathlib.Core.Path.{_≡_, refl, sym, ap, _∙_}
 use native.Mathlib.Omega.{arith}
 use borrow.Author.Needs.{needs}
 use Prim.Native.Nat.{_-_, _≤_}
@@ -28,17 +28,29 @@ is-gap-requires c κs = search needs
 returns : tie.Need-returns Inv-loop μ-loop
 returns c = record { onward = omega arith; inside = omega arith; same = c .before .before .before .before .loop .inv .2; stops = λ h. sym (c .before .is-gap .ensures) ∙ not-true _ (c .if1 .taken) }
 
-piece-end-requires : tie.Need-piece-end-requires Inv-loop μ-loop
-piece-end-requires c κs = omega arith
+gap-end-requires : tie.Need-gap-end-requires Inv-loop μ-loop
+gap-end-requires c κs = (omega arith, sym (c .before .is-gap .ensures) ∙ not-false _ (c .if1 .left))
 
 loop-less : tie.Need-loop-less Inv-loop μ-loop
-loop-less c = omega (arith, piece-onward _ (c .before .before .before .before .before .loop .i) _ (omega arith) (c .piece-end .ensures))
+loop-less c = omega (arith, piece-onward _ (c .before .before .before .before .before .loop .i) _ (omega arith) (c .gap-end .ensures))
 
 loop-again : tie.Need-loop-again Inv-loop μ-loop
-loop-again c = (omega (arith, piece-onward _ (c .before .before .before .before .before .loop .i) _ (omega arith) (c .piece-end .ensures)), piece-inside _ (c .before .before .before .before .before .loop .i) _ (omega arith) (c .piece-end .ensures) .1, sym (tokens-gap _ _ _ _ (omega arith) (c .before .before .is-gap .ensures) (not-false _ (c .before .if1 .left)) (c .piece-end .ensures)) ∙ c .before .before .before .before .before .loop .inv .2)
+loop-again c = (omega (arith, piece-onward _ (c .before .before .before .before .before .loop .i) _ (omega arith) (c .gap-end .ensures)), piece-inside _ (c .before .before .before .before .before .loop .i) _ (omega arith) (c .gap-end .ensures) .1, sym (tokens-gap _ _ _ _ (omega arith) (c .before .before .is-gap .ensures) (not-false _ (c .before .if1 .left)) (c .gap-end .ensures)) ∙ c .before .before .before .before .before .loop .inv .2)
 
 returns-2 : tie.Need-returns-2 Inv-loop μ-loop
 returns-2 c = record { onward = omega arith; inside = omega arith; same = c .before .loop .inv .2; stops = λ h. absurd (omega arith) }
 
 pub skip-spec : {M : Type 1} → statement M
-skip-spec = tie.close (tie.spec Inv-loop μ-loop loop-holds shared-slice-read-is-gap is-gap-requires returns piece-end-requires loop-less loop-again returns-2)
+skip-spec =
+    tie.close
+    (tie.spec
+    Inv-loop
+    μ-loop
+    loop-holds
+    shared-slice-read-is-gap
+    is-gap-requires
+    returns
+    gap-end-requires
+    loop-less
+    loop-again
+    returns-2)

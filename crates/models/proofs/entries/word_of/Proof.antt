@@ -1,0 +1,27 @@
+-- By what 64 bits tell of the number.
+use mathlib.Core.Path.{_≡_, refl, sym, ap, _∙_}
+use borrow.Author.Needs.{needs}
+use Rattle.models.specs.laws.Numbers.{small-some, small-none}
+use Rattle.models.proofs.entries.word_of.Statement.{statement}
+use Rattle.models.proofs.entries.word_of.Tie as tie
+
+enum-known-n : tie.Need-enum-known-n
+enum-known-n c = search needs
+
+enum-told : tie.Need-enum-told
+enum-told c = search needs
+
+returns : tie.Need-returns
+returns c = small-none _ (c .enum-told .given .1)
+
+returns-2 : tie.Need-returns-2
+returns-2 c = small-some _ _ (c .before .n .given .1)
+
+pub word-of-spec : {M : Type 1} → statement M
+word-of-spec =
+    tie.close
+    (tie.spec
+    enum-known-n
+    enum-told
+    returns
+    returns-2)
