@@ -258,13 +258,8 @@ fn judge_text(
     requires { ⌜ Prepared (now problem) (now list) (now froms) (now tos) (now digests) (now ids) count × (now given ≡ zeros) × (now words ≡ zeros) × (now values ≡ zeros) ⌝ }
     ensures { λ r. ⌜ r ≡ (refuse 31 0 (not (isModel (now (text .entry)))) next judgedEntries (now (problem .entry)) (names (now (list .entry))) (entries (now (text .entry)))) ⌝ }
 {
-    if !is_model(text) {
-        return Judged::Refused(Fault {
-            number: 31,
-            place: 0,
-        });
-    }
-    let said = read_entries(
+    let syntax = line(Judged::Yes, 31, !is_model(text), 0);
+    let found = read_entries(
         problem,
         list,
         text,
@@ -276,6 +271,7 @@ fn judge_text(
         given,
         words,
     );
+    let said = first_of(syntax, found);
     if !is_yes(said) {
         return said;
     }

@@ -248,15 +248,27 @@ module _ (s vs ids words : List ℕ) (count : ℕ) (a missing : Judged) (p : mis
   unfolding valuesSaid
   values-zero wrong r us q h u k = passed a _ missing r p y (rw (← e) (passed _ _ wrong r q h (k ∙ rw u)))
 
--- 31
-module _ (text : List ℕ) (m : Bool) (q : m ≡ isModel text) where
-  pub model-wrong : (j : Judged) → not m ≡ true → Refused (record { number = 31; place = 0 }) ≡ (refuse 31 0 (not (isModel text)) next j)
-  model-wrong j h =
-      next-stays (Refused (record { number = 31; place = 0 })) j refl
-      ∙ ap (λ (x : Judged). x next j) (refuse-given 31 0 (not (isModel text)) (ap not (sym q) ∙ h))
+-- 31, then 32 to 34, then what is left
+module _ (s list text : List ℕ) (m : Bool) (syntax found said : Judged) (q : m ≡ isModel text) (p : syntax ≡ (Yes next refuse 31 0 (not m)))
+    (k : found ≡ entriesSaid s (names list) (entries text)) (e : said ≡ (syntax next found)) where
+  syntax-is : syntax ≡ refuse 31 0 (not (isModel text))
+  syntax-is = p ∙ next-yes Yes (refuse 31 0 (not m)) refl ∙ ap (λ (b : Bool). refuse 31 0 (not b)) q
 
-  pub model-right : (j r : Judged) → not m ≡ false → r ≡ j → r ≡ (refuse 31 0 (not (isModel text)) next j)
-  model-right j r h k = k ∙ sym (next-yes (refuse 31 0 (not (isModel text))) j (refuse-not 31 0 (not (isModel text)) (ap not (sym q) ∙ h)))
+  pub text-wrong : isYes said ≡ false → said ≡ (refuse 31 0 (not (isModel text)) next judgedEntries s (names list) (entries text))
+  text-wrong h = by (isYes syntax) refl
+    where
+      by : (t : Bool) → isYes syntax ≡ t → said ≡ (refuse 31 0 (not (isModel text)) next judgedEntries s (names list) (entries text))
+      by false y = answered _ _ said (e ∙ sym (next-stays syntax found y) ∙ syntax-is) h
+      by true y =
+          let f : said ≡ found = e ∙ next-yes syntax found (yes-is syntax y) in
+          passed _ _ syntax said syntax-is y (entries-judged s (names list) (entries text) said (f ∙ k) h)
+
+  pub found-right : isYes said ≡ true → isYes found ≡ true
+  found-right h = ap isYes (next-right syntax found (sym e ∙ yes-is said h))
+
+  pub text-right : (t : Judged) → isYes said ≡ true → t ≡ judgedEntries s (names list) (entries text)
+      → t ≡ (refuse 31 0 (not (isModel text)) next judgedEntries s (names list) (entries text))
+  text-right t h u = passed _ _ syntax t syntax-is (ap isYes (next-left syntax found (sym e ∙ yes-is said h))) u
 
 -- what judge_values asks
 module _ (s list text froms tos digests ids given words values : List ℕ) (count : ℕ) (p : Prepared s list froms tos digests ids count) (r : Judged)
