@@ -8,12 +8,14 @@
 
        number + 256 x place
 
-   with the numbers below; the place is a node's id, a root's position, or 0. wal_number and wal_place
-   take it apart. WAL_TOO_SHORT comes before all else where an array lent for the answer is too short:
+   with the numbers below; the place is a node's id, a root's or an entry's position, or 0. wal_number and
+   wal_place take it apart. WAL_TOO_SHORT comes before all else where an array lent for the answer is too short:
    nothing is done then.
 
    Calls share nothing, keep nothing and allocate nothing: any number may run at once, on any threads.
-   A call takes at most WAL_STACK bytes of stack (wal_run the most, for the pairs of up to 1,024 nodes). */
+   A call takes at most WAL_STACK bytes of stack (wal_run the most, for the pairs of up to 1,024 nodes), but
+   for wal_model, which takes at most WAL_MODEL_STACK whatever the text (for the values of as many nodes, and
+   where the names of their variables stand). */
 #ifndef WALUMPEH_H
 #define WALUMPEH_H
 
@@ -24,7 +26,7 @@
 extern "C" {
 #endif
 
-enum { WAL_STACK = 17408 };
+enum { WAL_STACK = 17408, WAL_MODEL_STACK = 40960 };
 
 /* What a node computes. Fields a, b, c of a node name its operands; extract's b is its lowest bit. */
 enum {
@@ -68,6 +70,13 @@ enum {
     WAL_ROOT_REPEATED = 16, /* [root] its id stands earlier in the file */
     WAL_FEW_PLACES = 14,   /* fewer places for values than nodes */
     WAL_START = 15,        /* [node] a variable's start does not agree with its pair */
+    WAL_NAMES = 30,          /* the list has too few or many names, or one twice */
+    WAL_SYNTAX = 31,         /* no get-model answer, or a width outside 1 to 64 */
+    WAL_UNKNOWN_NAME = 32,   /* [entry] no variable has the name */
+    WAL_NAME_REPEATED = 33,  /* [entry] an earlier entry has the name */
+    WAL_ENTRY_WIDTH = 34,    /* [entry] sort or value are not of the variable's width, or a decimal is too large */
+    WAL_ABSENT = 35,         /* [node] the variable has no entry */
+    WAL_CONTRADICTED = 36,   /* [node] the value contradicts a fixed bit */
     WAL_TOO_SHORT = 255    /* an array lent for the answer is too short: nothing was done */
 };
 
@@ -85,6 +94,9 @@ enum { WAL_OUT_VERDICT = 0, WAL_OUT_MOVES = 1, WAL_OUT_STEPS = 2, WAL_OUT_WORDS 
 
 /* Where wal_need puts what in out, and how many words it needs there. */
 enum { WAL_NEED_CHAIN = 0, WAL_NEED_WORDS = 1, WAL_NEED_OUT = 2 };
+
+/* Where wal_model puts what in out, and how many words it needs there. */
+enum { WAL_MODEL_YES = 0, WAL_MODEL_ROOT = 1, WAL_MODEL_OUT = 2 };
 
 /* A refusal's number and place. */
 static inline unsigned wal_number(uint64_t refusal) { return (unsigned)(refusal & 255); }
@@ -105,6 +117,16 @@ uint64_t wal_run(const uint8_t *problem, size_t problem_len, uint64_t *values, s
    and a run of that budget or a smaller one that is lent so many words never says WAL_ENDED, from whatever
    start. Words of out after the second are not touched. */
 uint64_t wal_need(const uint8_t *problem, size_t problem_len, uint16_t budget, uint64_t *out, size_t out_len);
+
+/* Our word for another solver's model: the refusals of wal_check, then 30 to 36, each tried over the whole text
+   before the next. names has a name for each variable, by ascending id, each ended by a line feed, the last
+   perhaps by the list's end; of a name with a bar at both ends the inside counts. text is a get-model answer in
+   SMT-LIB syntax: ( or (model, entries (define-fun NAME () (_ BitVec W) VALUE) with values #b.., #x.. or
+   (_ bvN w), and ). A line "sat" before it is not part of it. Entries count from 0. out takes 1 and 0 where
+   every root is 1 under the text's values, 0 and the position of the first root that is 0 otherwise, and 0 and
+   0 beside a refusal. Words of out after the second are not touched. */
+uint64_t wal_model(const uint8_t *problem, size_t problem_len, const uint8_t *names, size_t names_len,
+                   const uint8_t *text, size_t text_len, uint64_t *out, size_t out_len);
 
 /* The pick from the inverse (which = 0) or consistent (else) set of an operand's position: 1 with the
    value in out[0], 0 where the set is empty, 2 where no accepted problem has such a node, position and

@@ -6,12 +6,14 @@
 //! | `commands` | one module for each subcommand                            |
 //! | `files`    | reading, writing and printing                             |
 //! | `problem`  | an accepted problem from a file                           |
+//! | `names`    | lists of the variables' names                             |
 //! | `fault`    | what goes wrong, in words for the user                    |
 //! | `started`  | what has to be looked at before Rust's own start          |
 
 mod commands;
 mod fault;
 mod files;
+mod names;
 mod problem;
 mod started;
 
@@ -32,11 +34,15 @@ struct Line {
 const STATUS: &str = "\
 Where a file is read or written, '-' is standard input or output.
 Exit status: 0 done; 1 refused, or a file cannot be read or written; 2 the command line is not understood.
-run has more.";
+run and model have more.";
 
 fn main() -> ExitCode {
+    let mut trouble = ExitCode::FAILURE;
     let done = match Line::try_parse() {
-        Ok(line) => line.command.run(),
+        Ok(line) => {
+            trouble = line.command.trouble();
+            line.command.run()
+        }
         Err(error) if error.use_stderr() => {
             tell(&error.to_string());
             return ExitCode::from(2);
@@ -46,10 +52,10 @@ fn main() -> ExitCode {
     };
     match done {
         Ok(status) => status,
-        Err(Fault::Unheard) => ExitCode::FAILURE,
+        Err(Fault::Unheard) => trouble,
         Err(Fault::Told(words)) => {
             tell(&format!("walumpeh: {words}\n"));
-            ExitCode::FAILURE
+            trouble
         }
     }
 }

@@ -3,7 +3,7 @@
 use clap::{Parser, ValueEnum};
 use compare::narrow::{self, Extent};
 use compare::runs::{self, Counts, Difference};
-use compare::{fixed, need, program, refused, wide, Library, Plain, Subject};
+use compare::{fixed, models, need, program, refused, wide, Library, Plain, Subject};
 use model::{Kind, Verdict};
 use std::path::{Path, PathBuf};
 use std::process::ExitCode;
@@ -63,6 +63,14 @@ enum What {
     },
     /// Problems that use every word of the tape that they may need, and say ended with one word less
     Need,
+    /// What is said of other solvers' models: get-model answers well formed, damaged, and with every refusal
+    Models {
+        #[arg(long, default_value_t = 100_000)]
+        cases: u64,
+        /// Where the files of a difference are written to
+        #[arg(long, value_name = "FOLDER", default_value = "differences")]
+        out: PathBuf,
+    },
     /// The whole output of a program that does as tvrun does, run in a folder of its own
     Program {
         program: PathBuf,
@@ -98,6 +106,7 @@ fn compare(subject: &impl Subject, line: &Line) -> Result<(), String> {
         What::Runs { cases, out } => whole_runs(subject, line.seed, *cases, out),
         What::More { cases, out } => pairs(subject, line.seed, *cases, out),
         What::Need => whole_tapes(subject, line.seed),
+        What::Models { cases, out } => answers(line, *cases, out),
         What::Program { program, cases } => whole_outputs(program, line.seed, *cases),
     }
 }
@@ -208,13 +217,41 @@ fn pairs(subject: &impl Subject, seed: u64, cases: u64, out: &Path) -> Result<()
     }
 }
 
+fn answers(line: &Line, cases: u64, out: &Path) -> Result<(), String> {
+    if let Side::Plain = line.subject {
+        return Err("plain Rust does not read other solvers' models".into());
+    }
+    let start = Instant::now();
+    let counts = models::compare(&Library, line.seed, cases).map_err(|difference| {
+        let written = written(models::write_files(&difference.answer, out), out);
+        format!(
+            "difference at answer {} of seed {}: {}; {written}",
+            difference.index, line.seed, difference.what
+        )
+    })?;
+    println!("yes {:>8}\nno  {:>8}", counts.yes, counts.no);
+    for number in (1..counts.refusals.len()).filter(|&number| counts.refusals[number] > 0) {
+        println!("refusal {number:<3} {:>8}", counts.refusals[number]);
+    }
+    println!("every order of two of refusals 30 to 36, the earlier told, {} times or more", counts.rarest());
+    println!("models: {cases} answers, no difference, {}", seconds(start));
+    match counts.missing().as_slice() {
+        [] => Ok(()),
+        missing => Err(format!("never reached: {}", missing.join(", "))),
+    }
+}
+
 /// A difference in words, its files written to a folder.
 fn kept(difference: &Difference, seed: u64, out: &Path) -> String {
-    let written = match runs::write_files(&difference.case, out) {
+    let written = written(runs::write_files(&difference.case, out), out);
+    format!("difference at case {} of seed {seed}: {}; {written}", difference.index, difference.what)
+}
+
+fn written(files: std::io::Result<()>, out: &Path) -> String {
+    match files {
         Ok(()) => format!("its files are in {}", out.display()),
         Err(fault) => format!("its files could not be written to {}: {fault}", out.display()),
-    };
-    format!("difference at case {} of seed {seed}: {}; {written}", difference.index, difference.what)
+    }
 }
 
 fn show(counts: &Counts) {

@@ -15,6 +15,12 @@ pub trait Subject: Sync {
     fn essential(&self, asked: &Asked) -> u8;
 }
 
+/// Our word for another solver's model; plain Rust has no such call.
+pub trait Judge: Sync {
+    /// 0, or a refusal's number + 256 × its place; `out` takes 1 for yes and 0 otherwise, and the first root that is 0.
+    fn model(&self, problem: &[u8], names: &[u8], text: &[u8], out: &mut [u64]) -> u64;
+}
+
 /// A node, a position and a target, as the calls take them.
 #[derive(Clone, Copy, Debug)]
 pub struct Asked {
@@ -65,6 +71,12 @@ impl Subject for Library {
     }
 }
 
+impl Judge for Library {
+    fn model(&self, problem: &[u8], names: &[u8], text: &[u8], out: &mut [u64]) -> u64 {
+        walumpeh::raw::model(problem, names, text, out)
+    }
+}
+
 /// The model itself: what every subject is to answer at any width.
 pub struct Model;
 
@@ -87,6 +99,12 @@ impl Subject for Model {
 
     fn essential(&self, q: &Asked) -> u8 {
         model::calls::essential(q.kind, q.width, q.low, &q.words, q.position, q.target)
+    }
+}
+
+impl Judge for Model {
+    fn model(&self, problem: &[u8], names: &[u8], text: &[u8], out: &mut [u64]) -> u64 {
+        model::calls::model(problem, names, text, out)
     }
 }
 

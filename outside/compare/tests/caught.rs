@@ -3,7 +3,8 @@
 
 use compare::narrow::{self, Extent};
 use compare::subject::{Asked, Model};
-use compare::{fixed, need, runs, wide, Subject};
+use compare::{fixed, models, need, runs, wide, Judge, Subject};
+use model::calls::MODEL_OUT;
 use model::problem::{HEADER, NODE};
 use model::{pairs, Kind, Pair, Set};
 
@@ -177,6 +178,63 @@ fn closes_by_the_low_bits_of_sums(problem: &[u8]) -> bool {
 fn free_the_others(asked: &mut Asked) {
     for at in [1, 2].map(|further| (asked.position as usize + further) % 3) {
         (asked.words[3 + at], asked.words[6 + at]) = (0, model::ones(asked.words[at] as u32));
+    }
+}
+
+/// The model's reader with one answer changed.
+#[derive(Clone, Copy, Debug, PartialEq)]
+enum WrongReader {
+    TakesTheLaterOfTwo,
+    TakesDecimalsModulo,
+    TellsUnknownNamesBeforeSyntax,
+    SaysYesWhereOneIsAbsent,
+    PassesFixedBitsOver,
+    TakesTwoNamesForOne,
+    CountsEntriesFromOne,
+    NamesTheLastRoot,
+}
+
+use WrongReader::*;
+
+impl Judge for WrongReader {
+    fn model(&self, problem: &[u8], names: &[u8], text: &[u8], out: &mut [u64]) -> u64 {
+        let refusal = Model.model(problem, names, text, out);
+        let yes = |out: &mut [u64]| {
+            out[..MODEL_OUT].copy_from_slice(&[1, 0]);
+            0
+        };
+        match (self, refusal & 255) {
+            (_, 255) => refusal,
+            (TakesTheLaterOfTwo, 33) => yes(out),
+            (TakesDecimalsModulo, 34) => yes(out),
+            (TellsUnknownNamesBeforeSyntax, 31) => 32,
+            (SaysYesWhereOneIsAbsent, 35) => yes(out),
+            (PassesFixedBitsOver, 36) => yes(out),
+            (TakesTwoNamesForOne, 30) => yes(out),
+            (CountsEntriesFromOne, 32..=34) => refusal + 256,
+            (NamesTheLastRoot, 0) if out[0] == 0 => {
+                let roots = u64::from(u16::from_le_bytes([problem[7], problem[8]]));
+                out[1] = roots - 1;
+                refusal
+            }
+            _ => refusal,
+        }
+    }
+}
+
+#[test]
+fn wrong_readers_are_caught() {
+    for wrong in [
+        TakesTheLaterOfTwo,
+        TakesDecimalsModulo,
+        TellsUnknownNamesBeforeSyntax,
+        SaysYesWhereOneIsAbsent,
+        PassesFixedBitsOver,
+        TakesTwoNamesForOne,
+        CountsEntriesFromOne,
+        NamesTheLastRoot,
+    ] {
+        assert!(models::compare(&wrong, 1, 2000).is_err(), "{wrong:?} passed");
     }
 }
 

@@ -1,5 +1,5 @@
-//! The proved library in safe Rust: the problem check, the run and how long a tape it takes, and the
-//! picks of a single node.
+//! The proved library in safe Rust: the problem check, the run and how long a tape it takes, our word for
+//! another solver's model, and the picks of a single node.
 //!
 //! Every call takes whole slices and answers for every input; nothing has to hold beforehand. Calls
 //! share nothing and may run on several threads. The calls behind them, with the library's own numbers,
@@ -80,6 +80,26 @@ pub fn need(problem: &[u8], budget: u16) -> Result<Need, Refusal> {
     Refusal::of(raw::need(problem, budget, &mut out))?;
     let [chain, words] = out;
     Ok(Need { chain, words })
+}
+
+/// What is said of another solver's model.
+#[derive(Clone, Copy, Debug, PartialEq, Eq)]
+pub enum Judged {
+    /// All roots are 1.
+    Yes,
+    /// The first root that is 0, by its position.
+    No(u16),
+}
+
+/// Whether all roots are 1 under the values of a get-model answer in SMT-LIB syntax. The list has a name for
+/// each variable, by ascending id, each ended by a line feed, the last perhaps by the list's end.
+pub fn model(problem: &[u8], names: &[u8], text: &[u8]) -> Result<Judged, Refusal> {
+    let mut out = [0; raw::MODEL_OUT];
+    Refusal::of(raw::model(problem, names, text, &mut out))?;
+    match out {
+        [0, root] => Ok(Judged::No(root as u16)),
+        _ => Ok(Judged::Yes),
+    }
 }
 
 /// The set that a value is picked from.

@@ -25,6 +25,16 @@ mod calls {
             out: *mut u64,
             out_len: usize,
         ) -> u64;
+        pub fn wal_model(
+            problem: *const u8,
+            problem_len: usize,
+            names: *const u8,
+            names_len: usize,
+            text: *const u8,
+            text_len: usize,
+            out: *mut u64,
+            out_len: usize,
+        ) -> u64;
         pub fn wal_pick(
             kind: u8,
             width: u32,
@@ -59,6 +69,9 @@ pub const RUN_OUT: usize = 4;
 /// How many words `need` needs for its answer: H and the number of words.
 pub const NEED_OUT: usize = 2;
 
+/// How many words `model` needs for its answer: 1 for yes and 0 otherwise, and the first root that is 0.
+pub const MODEL_OUT: usize = 2;
+
 /// The refusal of a call that is lent too few words for its answer.
 pub const TOO_SHORT: u64 = 255;
 
@@ -92,6 +105,23 @@ pub fn run(problem: &[u8], values: &mut [u64], tape: &[u64], budget: u16, out: &
 pub fn need(problem: &[u8], budget: u16, out: &mut [u64]) -> u64 {
     // SAFETY: as above.
     unsafe { calls::wal_need(problem.as_ptr(), problem.len(), budget, out.as_mut_ptr(), out.len()) }
+}
+
+/// The same; `out` takes 1 for yes and 0 otherwise, and the first root that is 0, or two zeros.
+pub fn model(problem: &[u8], names: &[u8], text: &[u8], out: &mut [u64]) -> u64 {
+    // SAFETY: as above.
+    unsafe {
+        calls::wal_model(
+            problem.as_ptr(),
+            problem.len(),
+            names.as_ptr(),
+            names.len(),
+            text.as_ptr(),
+            text.len(),
+            out.as_mut_ptr(),
+            out.len(),
+        )
+    }
 }
 
 /// 1 with the value in `out`, 0 where the set is empty, 2 where the arguments are refused.

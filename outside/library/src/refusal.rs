@@ -2,7 +2,7 @@
 
 use std::fmt::{Display, Formatter};
 
-/// A refusal's number and its place: a node's id, a root's position, or 0.
+/// A refusal's number, and its place: a node's id, a root's or an entry's position, or 0.
 #[derive(Clone, Copy, Debug, PartialEq, Eq)]
 pub struct Refusal {
     pub number: u8,
@@ -18,6 +18,8 @@ pub enum Place {
     Node(u64),
     /// A root, by its position.
     Root(u64),
+    /// An entry of another solver's model, from 0.
+    Entry(u64),
 }
 
 impl Refusal {
@@ -31,8 +33,9 @@ impl Refusal {
 
     pub fn at(self) -> Place {
         match self.number {
-            7..=12 | 15 | 20 => Place::Node(self.place),
+            7..=12 | 15 | 20 | 35 | 36 => Place::Node(self.place),
             13 | 16 => Place::Root(self.place),
+            32..=34 => Place::Entry(self.place),
             _ => Place::Whole,
         }
     }
@@ -57,6 +60,13 @@ impl Refusal {
             15 => "a variable's start does not agree with its pair",
             16 => "the root stands earlier in the file",
             20 => "a division of more than 16 bits",
+            30 => "too few or too many names for the variables, or one twice",
+            31 => "no get-model answer of define-fun entries, or a width outside 1 to 64",
+            32 => "no variable has the name",
+            33 => "an earlier entry has the name",
+            34 => "sort or value are not of the variable's width, or the value is too large",
+            35 => "the variable has no entry",
+            36 => "the value contradicts a fixed bit",
             _ => "no such refusal",
         }
     }
@@ -70,6 +80,7 @@ impl Display for Refusal {
             Place::Whole => write!(f, ": {}", self.meaning()),
             Place::Node(id) => write!(f, ": node {id}: {}", self.meaning()),
             Place::Root(position) => write!(f, ": root {position}: {}", self.meaning()),
+            Place::Entry(position) => write!(f, ": entry {position}: {}", self.meaning()),
         }
     }
 }

@@ -1,6 +1,7 @@
 //! The proved library's calls as the model answers them, in the library's own numbers: what each
 //! must answer.
 
+use crate::judged::{judge, Judged};
 use crate::problem::read;
 use crate::{exact, ones, run as model_run, Answer, Kind, Operator, Outcome, Pair, Refusal, Set, Spot};
 
@@ -12,6 +13,9 @@ pub const RUN_OUT: usize = 4;
 
 /// How many words the answer of `need` takes: H and the number of words.
 pub const NEED_OUT: usize = 2;
+
+/// How many words the answer of `model` takes: 1 for yes and 0 otherwise, and the first root that is 0.
+pub const MODEL_OUT: usize = 2;
 
 /// The refusal of a call that is lent too few words for its answer.
 pub const TOO_SHORT: u64 = 255;
@@ -41,6 +45,21 @@ pub fn need(problem: &[u8], budget: u16, out: &mut [u64]) -> u64 {
             code(refusal)
         }
     }
+}
+
+/// Whether another solver's model makes all roots 1: 0 with 1 and 0 in `out`, or 0 and the first root that is 0; or the
+/// refusal with 0 and 0. Nothing is done where `out` is too short.
+pub fn model(problem: &[u8], names: &[u8], text: &[u8], out: &mut [u64]) -> u64 {
+    let Some(out) = out.first_chunk_mut::<MODEL_OUT>() else {
+        return TOO_SHORT;
+    };
+    let (refusal, answer) = match judge(problem, names, text) {
+        Ok(Judged::Yes) => (0, [1, 0]),
+        Ok(Judged::No(root)) => (0, [0, root as u64]),
+        Err(refusal) => (code(refusal), [0, 0]),
+    };
+    *out = answer;
+    refusal
 }
 
 /// The run's answer in numbers; nothing is done where `out` is too short for it.

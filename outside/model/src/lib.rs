@@ -11,6 +11,7 @@
 //! | `exact`      | the same sets and pick at every width                                     |
 //! | `run`        | a run: refusals 14 and 15, verdicts, moves, steps, words                  |
 //! | `recipe`     | demand 3: the tape that leads from a start to a known solution            |
+//! | `judged`     | another solver's model: its text, refusals 30 to 36, the first root that is 0 |
 //! | `files`      | the three files of `tvrun`: what they hold and what is printed            |
 //! | `calls`      | the proved library's calls, in its numbers                                |
 
@@ -18,6 +19,7 @@ pub mod calls;
 pub mod definition;
 pub mod exact;
 pub mod files;
+pub mod judged;
 pub mod operator;
 pub mod pairs;
 pub mod problem;

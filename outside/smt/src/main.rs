@@ -2,15 +2,15 @@
 
 use clap::Parser;
 use model::Kind;
-use smt::{models, sugar, terms, unsolved};
+use smt::{answers, models, sugar, terms, unsolved};
 use std::process::ExitCode;
 use std::time::Instant;
 
-/// Compare the proved library with z3 (the variable Z3 may name the program)
+/// Compare the proved library with z3 (the variables Z3 and CVC5 may name the programs)
 ///
-/// All nodes' values of random problems; the models found for problems with a solution; and small
-/// problems, of which those that z3 calls unsatisfiable must not bring a model. The status is not 0 where
-/// anything differs.
+/// All nodes' values of random problems; the models found for problems with a solution; small problems, of
+/// which those that z3 calls unsatisfiable must not bring a model; and the models that z3 and cvc5 find,
+/// which the library must call solutions. The status is not 0 where anything differs.
 #[derive(Parser)]
 #[command(name = "smt-compare")]
 struct Line {
@@ -25,6 +25,9 @@ struct Line {
     /// How many small problems
     #[arg(long, default_value_t = 3000)]
     unsolved: u64,
+    /// How many problems whose models z3 and cvc5 are asked for, each twice
+    #[arg(long, default_value_t = 100)]
+    answers: u64,
 }
 
 fn main() -> ExitCode {
@@ -58,7 +61,11 @@ fn compare(line: &Line) -> Result<(), String> {
         "small problems: {} unsatisfiable, none brought a model ({} closed); {} satisfiable, {} brought one; {} unknown, {}",
         c.unsatisfiable, c.closed, c.satisfiable, c.found, c.unknown, seconds(start)
     );
-    if counts.contains(&0) || confirmed == 0 || c.closed == 0 || c.unsatisfiable == c.closed {
+    let start = Instant::now();
+    let a = answers::compare(line.answers, line.seed).map_err(difference)?;
+    println!("solvers' own models: {}, {}", a.shown(), seconds(start));
+    if !a.complete() || counts.contains(&0) || confirmed == 0 || c.closed == 0 || c.unsatisfiable == c.closed
+    {
         return Err("something was never reached".into());
     }
     Ok(())

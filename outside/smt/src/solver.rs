@@ -1,13 +1,41 @@
-//! One run of z3 over a text, and its answers.
+//! One run of a solver over a text, and its answers.
 
 use std::io::{Read, Write};
-use std::process::{Command, Stdio};
+use std::process::{Command, ExitStatus, Stdio};
 
-/// What z3 prints for a text. The variable Z3 may name another program than `z3`.
+/// A solver, with what it is called with beside the text.
+#[derive(Clone, Copy)]
+pub enum Solver {
+    Z3(&'static [&'static str]),
+    Cvc5(&'static [&'static str]),
+}
+
+impl Solver {
+    /// The variables Z3 and CVC5 may name other programs than `z3` and `cvc5`.
+    fn command(self) -> (String, Vec<&'static str>) {
+        let (variable, name, own, more): (_, _, &[&str], _) = match self {
+            Solver::Z3(more) => ("Z3", "z3", &["-smt2", "-in"], more),
+            Solver::Cvc5(more) => ("CVC5", "cvc5", &["--lang=smt2", "-"], more),
+        };
+        (std::env::var(variable).unwrap_or(name.into()), [more, own].concat())
+    }
+}
+
+/// What z3 prints for a text, in which nothing may be wrong.
 pub fn answers(text: String) -> Result<String, String> {
-    let program = std::env::var("Z3").unwrap_or("z3".into());
+    let (printed, status) = printed(Solver::Z3(&[]), text)?;
+    if printed.contains("(error") || !status.success() {
+        let error = printed.lines().find(|line| line.contains("(error")).unwrap_or("no message");
+        return Err(format!("z3: {status}: {error}"));
+    }
+    Ok(printed)
+}
+
+/// What a solver prints for a text, and its status.
+pub fn printed(solver: Solver, text: String) -> Result<(String, ExitStatus), String> {
+    let (program, arguments) = solver.command();
     let mut solver = Command::new(&program)
-        .args(["-smt2", "-in"])
+        .args(arguments)
         .stdin(Stdio::piped())
         .stdout(Stdio::piped())
         .spawn()
@@ -25,11 +53,7 @@ pub fn answers(text: String) -> Result<String, String> {
     let written = writer.join().expect("the writer does not panic");
     let status = solver.wait().map_err(|fault| format!("{program}: {fault}"))?;
     written.map_err(|fault| format!("{program}: {fault}"))?;
-    if printed.contains("(error") || !status.success() {
-        let error = printed.lines().find(|line| line.contains("(error")).unwrap_or("no message");
-        return Err(format!("{program}: {status}: {error}"));
-    }
-    Ok(printed)
+    Ok((printed, status))
 }
 
 /// The answers to a text's questions (check-sat) alone.

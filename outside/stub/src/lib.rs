@@ -47,6 +47,25 @@ pub unsafe extern "C" fn wal_need(
 }
 
 /// # Safety
+/// Each pointer and length are those of a slice; `out` overlaps no other.
+#[no_mangle]
+pub unsafe extern "C" fn wal_model(
+    problem: *const u8,
+    problem_len: usize,
+    names: *const u8,
+    names_len: usize,
+    text: *const u8,
+    text_len: usize,
+    out: *mut u64,
+    out_len: usize,
+) -> u64 {
+    let problem = from_raw_parts(problem, problem_len);
+    let names = from_raw_parts(names, names_len);
+    let text = from_raw_parts(text, text_len);
+    calls::model(problem, names, text, from_raw_parts_mut(out, out_len))
+}
+
+/// # Safety
 /// Each pointer and length are those of a slice.
 #[no_mangle]
 pub unsafe extern "C" fn wal_pick(

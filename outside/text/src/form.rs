@@ -22,13 +22,21 @@ use std::collections::HashMap;
 
 /// The problem that a text describes, or the line and what is wrong with it.
 pub fn parse(text: &str) -> Result<Problem, String> {
+    named(text).map(|(problem, _)| problem)
+}
+
+/// The same with the names of the variables, by ascending id.
+pub fn named(text: &str) -> Result<(Problem, Vec<String>), String> {
     let mut draft = Draft { builder: Builder::new(), ids: HashMap::new() };
     // Some editors begin a text with a mark of its encoding.
     for (index, line) in text.trim_start_matches('\u{feff}').lines().enumerate() {
         let words: Vec<&str> = line.split('#').next().unwrap_or("").split_whitespace().collect();
         draft.line(&words).map_err(|fault| format!("line {}: {fault}", index + 1))?;
     }
-    Ok(draft.builder.problem)
+    let (problem, mut names) = (draft.builder.problem, draft.ids.into_iter().collect::<Vec<_>>());
+    names.retain(|&(_, id)| problem.nodes[usize::from(id)].kind == Kind::Variable);
+    names.sort_by_key(|&(_, id)| id);
+    Ok((problem, names.into_iter().map(|(name, _)| name).collect()))
 }
 
 struct Draft {
@@ -238,6 +246,12 @@ mod tests {
         };
         assert_eq!(with(1020), Ok(1024));
         assert_eq!(with(1021), Err("line 1022: more than 1024 nodes".into()));
+    }
+
+    #[test]
+    fn variables_have_names() {
+        let text = "b = var 4\na = var 4\nk = const 4 1\ns = add a b\nz = var 1\nroot z\n";
+        assert_eq!(named(text).unwrap().1, ["b", "a", "z"]);
     }
 
     #[test]

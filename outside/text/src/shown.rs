@@ -1,7 +1,7 @@
 //! A problem's bytes as text, in the form that `form` reads, with widths and derived pairs as remarks.
 //! A refused problem is shown as far as its bytes go, with the refused place marked.
 
-use model::problem::{Problem, HEADER, NODE};
+use model::problem::{Node, Problem, HEADER, NODE};
 use model::{ones, pairs, Kind, Pair};
 use std::fmt::Write;
 use walumpeh::{Place, Refusal};
@@ -26,15 +26,18 @@ pub fn accepted(problem: &Problem) -> String {
         problem.height()
     );
     for (id, (node, pair)) in problem.nodes.iter().zip(pairs::pairs(problem)).enumerate() {
-        let raw =
-            Raw { kind: node.kind.number(), width: node.width as u8, fields: node.fields, pair: node.pair };
         let remark = format!("{} {}", count(node.width as usize, "bit"), digits(pair, node.width));
-        line(&mut text, &raw.shown(id), &remark);
+        line(&mut text, &Raw::of(node).shown(id), &remark);
     }
     for root in &problem.roots {
         writeln!(text, "root {root}").expect("text takes all");
     }
     text
+}
+
+/// What a node of an accepted problem is: its kind and operands.
+pub fn operation(node: &Node) -> String {
+    Raw::of(node).operation()
 }
 
 /// The text of refused bytes, as far as they go: no nodes where the header is refused.
@@ -107,27 +110,36 @@ impl Raw {
         }
     }
 
+    fn of(node: &Node) -> Raw {
+        Raw { kind: node.kind.number(), width: node.width as u8, fields: node.fields, pair: node.pair }
+    }
+
     /// The line of the text form.
     fn shown(&self, id: usize) -> String {
+        format!("{id} = {}", self.operation())
+    }
+
+    /// What the node is, as that line has it after its name.
+    fn operation(&self) -> String {
         let (w, [a, b, c]) = (self.width, self.fields);
         let Some(kind) = Kind::from_number(self.kind) else {
-            return format!("{id} = {}", self.bare());
+            return self.bare();
         };
         let name = kind.name();
         match kind {
             Kind::Variable if (1..=64).contains(&w) && self.pair != Pair::free(w.into()) => {
                 let width = u32::from(w);
                 let outside = if self.pair.hi > ones(width) { "?" } else { "" };
-                format!("{id} = {name} {w} {outside}{}", digits(self.pair, width))
+                format!("{name} {w} {outside}{}", digits(self.pair, width))
             }
-            Kind::Variable => format!("{id} = {name} {w}"),
-            Kind::Constant => format!("{id} = {name} {w} {}", self.pair.lo),
-            Kind::Extract => format!("{id} = {name} {a} {b} {w}"),
-            Kind::SignExtend => format!("{id} = {name} {w} {a}"),
+            Kind::Variable => format!("{name} {w}"),
+            Kind::Constant => format!("{name} {w} {}", self.pair.lo),
+            Kind::Extract => format!("{name} {a} {b} {w}"),
+            Kind::SignExtend => format!("{name} {w} {a}"),
             _ => match kind.operands() {
-                1 => format!("{id} = {name} {a}"),
-                2 => format!("{id} = {name} {a} {b}"),
-                _ => format!("{id} = {name} {a} {b} {c}"),
+                1 => format!("{name} {a}"),
+                2 => format!("{name} {a} {b}"),
+                _ => format!("{name} {a} {b} {c}"),
             },
         }
     }

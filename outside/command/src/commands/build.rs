@@ -3,6 +3,7 @@
 use crate::fault::Fault;
 use crate::files::read;
 use crate::files::write::{self, Output};
+use crate::names;
 use std::path::PathBuf;
 use std::process::ExitCode;
 use text::form;
@@ -18,6 +19,9 @@ pub struct Args {
     /// Allow a problem without roots: every start is a model of it
     #[arg(long)]
     rootless: bool,
+    /// Write the variables' names to a file, one a line, as export and model take them
+    #[arg(long, value_name = "FILE")]
+    names: Option<PathBuf>,
 }
 
 const FORM: &str = "\
@@ -46,12 +50,16 @@ Written out as the nodes named, each of which counts; what a node leaves out is 
 
 pub fn run(args: &Args) -> Result<ExitCode, Fault> {
     let text = read::text(&args.text)?;
-    let problem = form::parse(&text).map_err(|fault| Fault::at(&args.text, fault))?;
+    let (problem, names) = form::named(&text).map_err(|fault| Fault::at(&args.text, fault))?;
     if problem.roots.is_empty() && !args.rootless {
         return Err(Fault::at(&args.text, "no root: every start would be a model (--rootless allows it)"));
     }
     let bytes = problem.bytes();
     walumpeh::check(&bytes).map_err(|refusal| Fault::at(&args.text, refusal))?;
-    write::all(&[Output { path: &args.problem, bytes }], &[&args.text])?;
+    let mut outputs = vec![Output { path: &args.problem, bytes }];
+    if let Some(path) = &args.names {
+        outputs.push(Output { path, bytes: names::list(&names) });
+    }
+    write::all(&outputs, &[&args.text])?;
     Ok(ExitCode::SUCCESS)
 }

@@ -1,12 +1,14 @@
 //! walumpeh export: a problem as SMT-LIB text.
 
 use crate::fault::Fault;
+use crate::files::write::{self, Output};
 use crate::files::{print, read};
+use crate::names;
 use crate::problem::accepted;
-use model::{ones, Problem};
+use ::model::{ones, Problem};
 use std::path::{Path, PathBuf};
 use std::process::ExitCode;
-use text::smt2::{nodes, pin, roots, values, Variables};
+use text::smt2::{model, nodes, pin, symbol, values, Variables};
 
 /// Print a problem as SMT-LIB text, with an answer's values pinned if wanted
 ///
@@ -14,6 +16,10 @@ use text::smt2::{nodes, pin, roots, values, Variables};
 /// assertion that every root is 1. sat says that the problem has a solution with the pins, unsat that it
 /// has none. So the answer of a run is confirmed by
 ///     walumpeh run | walumpeh export problem.tbv --answer - | z3 -in
+/// With --model the text asks for a model, and declares the variables alone, so that walumpeh model reads
+/// the solver's answer:
+///     walumpeh export problem.tbv --model --write-names names.txt | z3 -in > answer.txt
+///     walumpeh model problem.tbv names.txt answer.txt
 #[derive(clap::Args)]
 #[command(verbatim_doc_comment)]
 pub struct Args {
@@ -34,6 +40,15 @@ pub struct Args {
     /// Ask for the values of all nodes
     #[arg(long)]
     values: bool,
+    /// Ask for a model (get-model)
+    #[arg(long, conflicts_with = "values")]
+    model: bool,
+    /// Call the variables by a list of names, one a line, by ascending id
+    #[arg(long, value_name = "FILE", requires = "model")]
+    names: Option<PathBuf>,
+    /// Write the list of the variables' names to a file
+    #[arg(long, value_name = "FILE", requires = "model", conflicts_with = "names")]
+    write_names: Option<PathBuf>,
 }
 
 /// A node's id and its value.
@@ -56,17 +71,22 @@ fn decimal(digits: &str) -> Option<u64> {
 
 pub fn run(args: &Args) -> Result<ExitCode, Fault> {
     let problem = accepted(&args.problem)?.problem;
-    let mut text = format!("(set-logic QF_BV)\n{}", nodes(&problem, "", Variables::Open));
+    let mut pins = Vec::new();
     if let Some(file) = &args.answer {
-        text += &pinned(&problem, file, &answer_pins(&problem, file)?)?;
+        pins.extend(fitting(&problem, file, answer_pins(&problem, file)?)?);
     }
     if let Some(file) = &args.start {
-        text += &pinned(&problem, file, &start_pins(&problem, file)?)?;
+        pins.extend(fitting(&problem, file, start_pins(&problem, file)?)?);
     }
-    text += &pinned(&problem, Path::new("--pin"), &args.pin)?;
+    pins.extend(fitting(&problem, Path::new("--pin"), args.pin.clone())?);
     if !args.no_roots {
-        text += &roots(&problem, "");
+        pins.extend(problem.roots.iter().map(|&root| (root.into(), 1)));
     }
+    if args.model {
+        return asked(args, &problem, &pins);
+    }
+    let mut text = format!("(set-logic QF_BV)\n{}", nodes(&problem, "", Variables::Open));
+    text.extend(pins.iter().map(|&(id, value)| pin(&problem, "", id, value)));
     text += "(check-sat)\n";
     if args.values {
         text += &values(0..problem.nodes.len(), "");
@@ -74,16 +94,45 @@ pub fn run(args: &Args) -> Result<ExitCode, Fault> {
     print::text(&text)
 }
 
-/// The assertions of pins that came from somewhere.
-fn pinned(problem: &Problem, from: &Path, pins: &[Pin]) -> Result<String, Fault> {
-    let one = |&(id, value): &Pin| match problem.nodes.get(id) {
-        None => Err(Fault::at(from, format!("there is no node {id} to pin"))),
-        Some(node) if value > ones(node.width) => {
-            Err(Fault::at(from, format!("node {id} has {} bits, too few for {value}", node.width)))
-        }
-        Some(_) => Ok(pin(problem, "", id, value)),
+/// The text that asks for a model, and the list of names where it is to be written.
+fn asked(args: &Args, problem: &Problem, pins: &[Pin]) -> Result<ExitCode, Fault> {
+    let names = match &args.names {
+        Some(file) => names::read(file, problem)?,
+        None => names::numbered(problem),
     };
-    pins.iter().map(one).collect()
+    let symbols: Vec<String> = names.iter().map(|name| named(args, name)).collect::<Result<_, _>>()?;
+    let text = model(problem, &symbols, pins);
+    let mut outputs = vec![Output { path: Path::new("-"), bytes: text.into_bytes() }];
+    if let Some(path) = &args.write_names {
+        outputs.push(Output { path, bytes: names::list(&names) });
+    }
+    write::all(&outputs, &[&args.problem])?;
+    Ok(ExitCode::SUCCESS)
+}
+
+/// A name as SMT-LIB writes it.
+fn named(args: &Args, name: &str) -> Result<String, Fault> {
+    let from = args.names.as_deref().unwrap_or(Path::new("--names"));
+    symbol(name).ok_or_else(|| {
+        Fault::at(from, format!("the name '{name}' has a bar or a backslash, which SMT-LIB cannot write"))
+    })
+}
+
+/// Pins that came from somewhere, if there are such nodes and the values fit them.
+fn fitting(problem: &Problem, from: &Path, pins: Vec<Pin>) -> Result<Vec<Pin>, Fault> {
+    for &(id, value) in &pins {
+        match problem.nodes.get(id) {
+            None => return Err(Fault::at(from, format!("there is no node {id} to pin"))),
+            Some(node) if value > ones(node.width) => {
+                return Err(Fault::at(
+                    from,
+                    format!("node {id} has {} bits, too few for {value}", node.width),
+                ));
+            }
+            Some(_) => {}
+        }
+    }
+    Ok(pins)
 }
 
 /// Every variable with its word of a file.

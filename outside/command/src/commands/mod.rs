@@ -4,6 +4,7 @@ mod build;
 mod check;
 mod example;
 mod export;
+mod model;
 mod need;
 mod run;
 mod show;
@@ -22,10 +23,19 @@ pub enum Command {
     Tape(tape::Args),
     Run(run::Args),
     Export(export::Args),
+    Model(model::Args),
     Example(example::Args),
 }
 
 impl Command {
+    /// The status where a file cannot be read or written: of `model` 1 says no.
+    pub fn trouble(&self) -> ExitCode {
+        match self {
+            Command::Model(_) => ExitCode::from(2),
+            _ => ExitCode::FAILURE,
+        }
+    }
+
     pub fn run(self) -> Result<ExitCode, Fault> {
         match self {
             Command::Build(args) => build::run(&args),
@@ -35,6 +45,7 @@ impl Command {
             Command::Tape(args) => tape::run(&args),
             Command::Run(args) => run::run(&args),
             Command::Export(args) => export::run(&args),
+            Command::Model(args) => model::run(&args),
             Command::Example(args) => example::run(&args),
         }
     }

@@ -27,12 +27,17 @@ pub fn tape(path: &Path) -> Result<Vec<u64>, Fault> {
     bytes(path, MOST_TAPE).map(|bytes| words_of(&bytes))
 }
 
-pub fn text(path: &Path) -> Result<String, Fault> {
+/// A text's bytes, whatever they are.
+pub fn any(path: &Path) -> Result<Vec<u8>, Fault> {
     let bytes = bytes(path, MOST_TEXT + 1)?;
     if bytes.len() as u64 > MOST_TEXT {
         return Err(Fault::at(path, format!("more than {MOST_TEXT} bytes of text")));
     }
-    String::from_utf8(bytes).map_err(|fault| {
+    Ok(bytes)
+}
+
+pub fn text(path: &Path) -> Result<String, Fault> {
+    String::from_utf8(any(path)?).map_err(|fault| {
         let before = &fault.as_bytes()[..fault.utf8_error().valid_up_to()];
         let line = 1 + before.iter().filter(|&&byte| byte == b'\n').count();
         Fault::at(path, format!("line {line}: not text: a byte that is not UTF-8"))

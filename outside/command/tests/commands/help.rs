@@ -2,7 +2,7 @@
 
 use crate::at::At;
 
-const COMMANDS: [&str; 8] = ["build", "show", "check", "need", "tape", "run", "export", "example"];
+const COMMANDS: [&str; 9] = ["build", "show", "check", "need", "tape", "run", "export", "model", "example"];
 
 #[test]
 fn help_names_every_command() {
@@ -31,6 +31,7 @@ fn every_command_has_help() {
         ("tape", ["--uniform", "[default: 95]"]),
         ("run", ["--budget", "3 spent, 4 ended, 5 closed"]),
         ("export", ["--answer <FILE>", "--pin <ID=VALUE>"]),
+        ("model", ["<NAMES>", "0 yes; 1 no; 2 nothing was judged"]),
         ("show", ["fixed bits", "<=="]),
         ("example", ["[default: .]", "0 11"]),
     ] {

@@ -5,6 +5,7 @@ mod answers;
 mod at;
 mod faults;
 mod help;
+mod models;
 mod printing;
 mod tour;
 mod writing;

@@ -3,12 +3,13 @@
 use crate::at::{text, At, WALUMPEH};
 use std::process::{Command, Output};
 
-const PRINTING: [&str; 7] = [
+const PRINTING: [&str; 8] = [
     "show problem.tbv",
     "check problem.tbv",
     "need problem.tbv",
     "run",
     "export problem.tbv",
+    "export problem.tbv --model",
     "--help",
     "tape --help",
 ];
@@ -29,6 +30,19 @@ fn a_closed_standard_output_is_noticed() {
     }
     let quiet = sent(&at, "tape problem.tbv", ">&-");
     assert_eq!((quiet.status.code(), text(&quiet.stderr).as_str()), (Some(0), ""));
+}
+
+/// Of `model` 1 says no: what cannot be printed has another status.
+#[test]
+fn a_judgement_that_cannot_be_printed_is_none() {
+    let at = At::example("unjudged");
+    at.write("names.txt", "x\n");
+    for answer in ["((define-fun x () (_ BitVec 4) #xb))", "((define-fun x () (_ BitVec 4) #x0))", "()"] {
+        at.write("answer.txt", answer);
+        let output = sent(&at, "model problem.tbv names.txt answer.txt", ">&-");
+        let found = (output.status.code(), text(&output.stderr));
+        assert_eq!(found, (Some(2), "walumpeh: standard output: closed\n".into()), "{answer}");
+    }
 }
 
 #[test]
