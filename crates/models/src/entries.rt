@@ -319,10 +319,10 @@ fn overflow(n: Number, w: u64) -> bool
 fn word_of(n: Number) -> u64
     ensures { λ r. ⌜ r ≡ small n ⌝ }
 {
-    let Number::Small(v) = n else {
-        return 0;
-    };
-    v
+    match n {
+        Number::Small(v) => v,
+        Number::Huge => 0,
+    }
 }
 
 // What an entry says to a variable: 34, whether it does not fit, and its value.

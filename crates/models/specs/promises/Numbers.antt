@@ -89,7 +89,7 @@ root-said s vs j r = by (eqb (getD vs (rootAt s j) 0) 0)
     by true e = rw (← e) (refl, refl)
     by false e = rw (← e) (refl, refl)
 
-or-left : (a b : Bool) → (a || b) ≡ false → a ≡ false
+pub or-left : (a b : Bool) → (a || b) ≡ false → a ≡ false
 or-left true b h = absurd (true≢false h)
 or-left false b h = refl
 

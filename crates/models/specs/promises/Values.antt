@@ -1,29 +1,29 @@
--- "under the values of the text": where nothing is refused, every variable has an entry of its name, and its place holds that
--- entry's value.
+-- "under the values of the text": where nothing is refused, every variable has one entry of its name, which fits it, and its place
+-- holds that entry's value.
 use mathlib.Core.Path.{_≡_, refl, sym, ap, _∙_}
 use mathlib.Core.Bool.{Bool, true, false, cond, not, _||_, true≢false}
 use mathlib.Core.List.{List, [], _∷_, _++_}
-use Prim.Native.Nat.{ℕ, zero, suc, _+_, _≤_, _<_}
+use Prim.Native.Nat.{ℕ, zero, suc, _^_, _≤_, _<_}
 use native.Mathlib.Omega.{arith}
 use native.Mathlib.Nat.{not-suc-le-zero}
 use native.Mathlib.Decide.{ℕ-discrete, decLt}
 use lib.Dec.{lit<, eqb}
 use lib.ListN.{length, getD, set, length-append, List·getD-append}
 use lib.Seq.{getD-append-seam, getD-set-same, getD-set-other}
-use borrow.Author.Tests.{eqb-true, eqb-false, not-false}
-use Rattle.problem.specs.Layout.{nodeCount, nodeAt}
+use borrow.Author.Tests.{eqb-true, eqb-false, leb-false, ltb-false, not-false}
+use Rattle.problem.specs.Layout.{nodeCount, nodeAt, widthAt}
 use Rattle.problem.specs.laws.Facts.{accepted-facts}
 use Rattle.models.specs.declared.Judged.the-variants.{Yes}
 use Rattle.models.specs.Names.{names, position, isAgain, some}
 use Rattle.models.specs.Entries.{Entry, noEntry, entries}
-use Rattle.models.specs.Judgement.{variablesBelow, variables, listWrong, namesOf, absentAt, assignedUp, assigned}
+use Rattle.models.specs.Judgement.{variablesBelow, variables, listWrong, namesOf, misfits, againAt, misfitAt, absentAt, assignedUp, assigned}
 use Rattle.models.specs.laws.First.{not-refused, said-each}
-use Rattle.models.specs.laws.Positions.{position-most, position-found, names-length, names-at}
+use Rattle.models.specs.laws.Positions.{position-most, position-found, position-first, position-own, names-length, names-at}
 use Rattle.models.specs.laws.Variables.{below}
 use Rattle.models.specs.laws.Values.{assigned-length}
 use Rattle.models.specs.promises.Order.{stages, stage}
 use Rattle.models.specs.promises.Exactly.{Unrefused, accepted}
-use Rattle.models.specs.promises.Numbers.{as-many}
+use Rattle.models.specs.promises.Numbers.{or-left, as-many}
 
 -- ---- variables ascend
 
@@ -73,28 +73,91 @@ module _ (s : List ℕ) (ns : List (List ℕ)) (es : List Entry) (few : nodeCoun
             ∙ assigned-at m k (omega arith) (omega arith)
       ]
 
-module _ (s list text : List ℕ) (u : Unrefused s list text) where
+-- what is given to variable k: one entry and no other has its name; sort and value are of the variable's width, the value is not too
+-- large for it, and the variable's place holds it
+pub record Given (s list text : List ℕ) (k : ℕ) : Type 0 where
+  pub entry : ℕ
+  pub inside : entry < length (entries text)
+  pub named : getD (entries text) entry noEntry .name ≡ getD (names list) k []
+  pub only : (i : ℕ) → i < length (entries text) → getD (entries text) i noEntry .name ≡ getD (names list) k [] → i ≡ entry
+  pub sort : getD (entries text) entry noEntry .sort ≡ widthAt s (getD (variables s) k 0)
+  pub width : getD (entries text) entry noEntry .width ≡ widthAt s (getD (variables s) k 0)
+  pub short : getD (entries text) entry noEntry .value < 2 ^ widthAt s (getD (variables s) k 0)
+  pub held : getD (assigned s (names list) (entries text)) (getD (variables s) k 0) 0 ≡ getD (entries text) entry noEntry .value
+
+or-right : (a b : Bool) → (a || b) ≡ false → b ≡ false
+or-right true b h = absurd (true≢false h)
+or-right false b h = h
+
+-- an entry that fits a width
+fits-width : (w : ℕ) (e : Entry) → misfits w e ≡ false → (e .sort ≡ w) × (e .width ≡ w) × (e .value < 2 ^ w)
+unfolding misfits
+fits-width w e h =
+    let a : not (eqb (e .sort) w) ≡ false = or-left _ _ (or-left _ _ h) in
+    let b : not (eqb (e .width) w) ≡ false = or-right _ _ (or-left _ _ h) in
+    let v : e .width ≡ w = eqb-true (e .width) w (not-false _ b) in
+    let l : e .value < 2 ^ e .width = leb-false (2 ^ e .width) (e .value) (or-right _ _ h) in
+    (eqb-true (e .sort) w (not-false _ a), v, rw v at l)
+
+module _ (s list text : List ℕ) (u : Unrefused s list text) (k : ℕ) (l : k < length (names list)) where
+  abbrev ns : List (List ℕ)
+  ns = names list
+
+  abbrev es : List Entry
+  es = entries text
+
   -- the entry of variable k
-  pub entryOfVariable : ℕ → ℕ
-  entryOfVariable k = position (getD (names list) k []) (namesOf (entries text))
+  abbrev own : ℕ
+  own = position (getD ns k []) (namesOf es)
 
-  has-entry : (k : ℕ) → k < length (names list) → entryOfVariable k < length (entries text)
-  unfolding Unrefused stages absentAt entryOfVariable
-  has-entry k l =
-      let x : (position (getD (names list) k []) (namesOf (entries text)) ≡ length (entries text) → ⊥) =
-      eqb-false _ (length (entries text)) (not-refused 35 _ _ (said-each _ (length (names list)) (u 6 (lit< tt)) k l)) in
-      omega (arith, position-most (getD (names list) k []) (namesOf (entries text)), names-length (entries text))
+  own-inside : own < length es
+  unfolding Unrefused stages absentAt
+  own-inside =
+      let x : (own ≡ length es → ⊥) = eqb-false own (length es) (not-refused 35 _ _ (said-each _ (length ns) (u 6 (lit< tt)) k l)) in
+      omega (arith, position-most (getD ns k []) (namesOf es), names-length es)
 
-  pub text-values : (k : ℕ) → k < length (names list)
-      → (e : ℕ)
-      × (e < length (entries text))
-      × (getD (entries text) e noEntry .name ≡ getD (names list) k [])
-      × (getD (assigned s (names list) (entries text)) (getD (variables s) k 0) 0 ≡ getD (entries text) e noEntry .value)
-  unfolding assigned entryOfVariable Unrefused
-  text-values k l = (
-    position (getD (names list) k []) (namesOf (entries text)),
-    has-entry k l,
-    sym (names-at (entries text) (position (getD (names list) k []) (namesOf (entries text))))
-        ∙ position-found (getD (names list) k []) (namesOf (entries text)) (omega (arith, has-entry k l, names-length (entries text))),
-    assigned-at s (names list) (entries text) (accepted-facts s (accepted s list text u) .header .nodes) (length (names list)) k l (omega (arith, as-many s list text (u 1 (lit< tt)))),
-  )
+  own-named : getD es own noEntry .name ≡ getD ns k []
+  own-named = sym (names-at es own) ∙ position-found (getD ns k []) (namesOf es) (omega (arith, own-inside, names-length es))
+
+  -- 33 is not given: an entry stands first of those of its name
+  own-only : (i : ℕ) → i < length es → getD es i noEntry .name ≡ getD ns k [] → i ≡ own
+  unfolding Unrefused stages againAt isAgain
+  own-only i h e =
+      let n : getD (namesOf es) i [] ≡ getD ns k [] = names-at es i ∙ e in
+      let a : i ≤ position (getD (namesOf es) i []) (namesOf es) =
+      ltb-false (position (getD (namesOf es) i []) (namesOf es)) i (not-refused 33 i _ (said-each _ (length es) (u 4 (lit< tt)) i h)) in
+      let b : own ≤ i = position-first (getD ns k []) (namesOf es) i (omega (arith, h, names-length es)) n in
+      let c : i ≤ own = rw n at a in
+      omega arith
+
+  -- 30 is not given: the names differ, and there are as many as variables
+  distinct : some (isAgain ns) (length ns) ≡ false
+  unfolding Unrefused stages listWrong
+  distinct = or-right _ _ (not-refused 30 0 _ (u 1 (lit< tt)))
+
+  owner : position (getD es own noEntry .name) ns ≡ k
+  owner = ap (λ (n : List ℕ). position n ns) own-named ∙ position-own ns distinct k l
+
+  -- 34 is not given
+  own-fits : misfits (widthAt s (getD (variables s) k 0)) (getD es own noEntry) ≡ false
+  unfolding Unrefused stages misfitAt
+  own-fits =
+      let h = not-refused 34 own _ (said-each (misfitAt s ns es) (length es) (u 5 (lit< tt)) own own-inside) in
+      rw owner at h
+
+  pub text-values : Given s list text k
+  unfolding assigned Unrefused
+  text-values =
+      let f = fits-width _ _ own-fits in
+      record {
+        entry = own;
+        inside = own-inside;
+        named = own-named;
+        only = own-only;
+        sort = f .0;
+        width = f .1;
+        short = f .2;
+        held =
+            assigned-at s ns es (accepted-facts s (accepted s list text u) .header .nodes) (length ns) k l
+            (omega (arith, as-many s list text (u 1 (lit< tt))));
+      }

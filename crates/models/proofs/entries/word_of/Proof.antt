@@ -12,10 +12,10 @@ enum-told : tie.Need-enum-told
 enum-told c = search needs
 
 returns : tie.Need-returns
-returns c = small-none _ (c .enum-told .given .1)
+returns c = small-some _ _ (c .before .n .given .1)
 
 returns-2 : tie.Need-returns-2
-returns-2 c = small-some _ _ (c .before .n .given .1)
+returns-2 c = small-none _ (c .enum-told .given .1)
 
 pub word-of-spec : {M : Type 1} → statement M
 word-of-spec =
