@@ -3,6 +3,7 @@
 use mathlib.Core.Path.{_≡_, refl, sym, ap, _∙_}
 use mathlib.Core.Bool.{Bool, true, false, cond, _||_, true≢false}
 use mathlib.Core.List.{List}
+use mathlib.Core.Logic.{⊎-elim}
 use Prim.Native.Nat.{ℕ, zero, suc, _≤_, _<_}
 use native.Mathlib.Omega.{arith}
 use lib.Dec.{lit<, eqb}
@@ -122,9 +123,13 @@ module _ (s list text : List ℕ) where
   unfolding stages
   accepted-first h = problem-accepted (checked s) h
 
+  -- the problem check's own numbers are below 30
+  own-below : ownNumber (checked s) < 30
+  own-below = ⊎-elim (λ l. omega (arith, l)) (⊎-elim (λ e. omega (arith, e)) (λ e. omega (arith, e))) (numbered s .known)
+
   by-stage : (i : ℕ) (r : Judged) → i < 9 → isYes r ≡ false → stage s list text i ≡ r → ((j : ℕ) → j < i → stage s list text j ≡ Yes) → P r
   unfolding stages unknownAt againAt misfitAt absentAt contradictedAt variables
-  by-stage zero r h y e b = own-line (checked s) _ _ r e y (omega (arith, numbered s .most))
+  by-stage zero r h y e b = own-line (checked s) _ _ r e y own-below
   by-stage (suc zero) r h y e b = by-line _ _ _ 30 0 _ r e y (accepted-first (b 0 (lit< tt))) (omega arith, omega arith) (λ l. refl) (λ l m. omega arith) (λ l. omega arith)
   by-stage (suc (suc zero)) r h y e b =
       by-line _ _ _ 31 0 _ r e y (accepted-first (b 0 (lit< tt))) (omega arith, omega arith) (λ l. refl) (λ l m. omega arith) (λ l. omega arith)
