@@ -1,5 +1,5 @@
 -- The entries of a get-model answer: "`(`, perhaps `model`, entries `(define-fun NAME () (_ BitVec W) VALUE)`, `)`."
-use mathlib.Core.Bool.{Bool, true, false, cond, not, _&&_, _||_}
+use mathlib.Core.Bool.{Bool, true, cond, not, _&&_, _||_}
 use mathlib.Core.List.{List, [], _∷_}
 use Prim.Native.Nat.{ℕ, _*_}
 use lib.Dec.{leb, ltb, eqb}

@@ -1,8 +1,8 @@
 -- The judgement: refusals in the request's order, each tried over the whole text before the next; then the roots.
-use mathlib.Core.Bool.{Bool, true, false, cond, not, _&&_, _||_}
+use mathlib.Core.Bool.{Bool, true, cond, not, _&&_, _||_}
 use mathlib.Core.List.{List, [], _∷_, _++_, map}
 use Prim.Native.Nat.{ℕ, zero, suc, _^_}
-use lib.Dec.{leb, ltb, eqb}
+use lib.Dec.{leb, eqb}
 use lib.ListN.{length, getD, set}
 use Rattle.problem.specs.declared.Checked.{Checked}
 use Rattle.problem.specs.declared.Checked.the-variants.{Accepted, Refused}

@@ -2,8 +2,8 @@
 ghost use mathlib.Core.Path.{_≡_};
 ghost use mathlib.Core.Bool.{cond};
 ghost use mathlib.Core.List.{[], _∷_};
-ghost use Prim.Native.Nat.{_*_, _^_, _≤_, _<_};
-ghost use lib.Dec.{leb, eqb};
+ghost use Prim.Native.Nat.{_*_, _≤_, _<_};
+ghost use lib.Dec.{eqb};
 ghost use lib.ListN.{length, take, drop, getD};
 ghost use Rattle.texts.specs.Runs.{equal};
 ghost use Rattle.texts.specs.Numbers.{numbered};
@@ -18,6 +18,7 @@ use crate::tokens::first_token;
 use crate::tokens::piece_end;
 use crate::tokens::skip;
 use crate::tokens::token;
+use problem::over_width;
 use texts::Number;
 use texts::byte_at;
 use texts::digits;
@@ -297,22 +298,14 @@ fn value_at(text: &[u8], at: usize) -> Number
 }
 
 // Whether a number is too large for a width.
-fn too_large(v: u64, w: u64) -> bool
-    ensures { λ r. ⌜ r ≡ leb (2 ^ w) v ⌝ }
-{
-    if w < 64 {
-        return (v >> w) != 0;
-    }
-    false
-}
-
 fn overflow(n: Number, w: u64) -> bool
+    requires { ⌜ w ≤ 64 ⌝ }
     ensures { λ r. ⌜ r ≡ overflows n w ⌝ }
 {
     let Number::Small(v) = n else {
         return true;
     };
-    too_large(v, w)
+    over_width(v, w as u8)
 }
 
 // A number itself; 0 where 64 bits do not hold it.

@@ -20,6 +20,7 @@ pub use layout::width_at;
 use refusals::header_fault;
 pub use refusals::line;
 use refusals::nodes_fault;
+pub use refusals::over_width;
 use refusals::roots_fault;
 use repeats::repeats_fault;
 

@@ -80,7 +80,7 @@ fn stray_field(n: Node, fields: u8) -> bool
 }
 
 // Whether x is 2^w or more.
-fn over_width(x: u64, w: u8) -> bool
+pub fn over_width(x: u64, w: u8) -> bool
     ensures { λ r. ⌜ r ≡ leb (2 ^ w) x ⌝ }
 {
     if w < 64 {

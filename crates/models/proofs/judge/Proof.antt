@@ -1,5 +1,5 @@
 -- The problem's refusal, or what is left with places to work in.
-use mathlib.Core.Path.{_≡_, refl, sym, ap, _∙_}
+use mathlib.Core.Path.{refl, sym, _∙_}
 use borrow.Author.Needs.{needs}
 use Rattle.evaluation.specs.Problem.{zeros}
 use Rattle.models.specs.laws.Values.{problem-wrong, problem-right}

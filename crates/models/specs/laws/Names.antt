@@ -1,22 +1,22 @@
 -- Laws of names: bars, symbols, the lines of the list, and where a name stands in it.
 use mathlib.Core.Path.{_≡_, refl, sym, ap, _∙_}
 use mathlib.Core.Bool.{Bool, true, false, cond, not, _&&_, _||_, false≢true, true≢false}
-use mathlib.Core.List.{List, [], _∷_, _++_}
+use mathlib.Core.List.{List, [], _∷_}
 use Prim.Native.Nat.{ℕ, zero, suc, _+_, _-_, _≤_, _<_, min}
 use native.Mathlib.Omega.{arith}
 use native.Mathlib.Nat.{not-suc-le-zero, zero-add}
 use native.Mathlib.Numerals.{add-one}
 use native.Mathlib.Decide.{decLt, ℕ-discrete}
 use lib.Dec.{ltb, leb, eqb}
-use lib.ListN.{length, getD, set, take, drop, length-take, length-drop, length-set, drop-of-length-le}
+use lib.ListN.{length, getD, set, take, drop, length-drop, drop-of-length-le}
 use lib.Seq.{length-take-le, drop-cons, drop-drop, take-take, getD-set-same, getD-set-other}
 use borrow.Author.Tests.{le-leb, lt-leb, lt-ltb, le-ltb}
-use Rattle.texts.specs.Runs.{isDigit, isIn, runLength, equal}
-use Rattle.texts.specs.laws.Runs.{run-inside, run-short, equal-same}
+use Rattle.texts.specs.Runs.{isIn, runLength, equal}
+use Rattle.texts.specs.laws.Runs.{run-inside, equal-same}
 use Rattle.texts.specs.declared.runs.Class.the-variants.{Clean, Symbol, Line}
 use Rattle.models.specs.declared.names.NameLine.{NameLine}
 use Rattle.models.specs.Names.{isBarred, inside, isSimple, isQuoted, isName, lineLength, names, position, isAgain, some}
-use Rattle.models.specs.inner.Judging.{Within, part, OnLine, NamedAt, Placed, Listed, Named, digestMore, digestFrom, digestOf, Digested, Indexed}
+use Rattle.models.specs.inner.Judging.{part, OnLine, NamedAt, Placed, Listed, Named, digestMore, digestFrom, digestOf, Digested, Indexed}
 use Rattle.models.specs.laws.Pieces.{drop-min, chop-none, chop-front}
 
 -- ---- bars

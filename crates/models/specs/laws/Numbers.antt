@@ -1,16 +1,16 @@
 -- Laws of the numbers in an entry: numerals, widths, literals, decimals.
 use mathlib.Core.Path.{_≡_, refl, sym, ap, _∙_}
-use mathlib.Core.Bool.{Bool, true, false, cond, not, _&&_, _||_, false≢true, true≢false}
+use mathlib.Core.Bool.{Bool, true, false, cond, not, _&&_, _||_}
 use mathlib.Core.List.{List, [], _∷_}
-use Prim.Native.Nat.{ℕ, zero, suc, _+_, _-_, _*_, _/_, _^_, _≤_, _<_}
+use Prim.Native.Nat.{ℕ, zero, suc, _-_, _*_, _^_, _≤_, _<_}
 use native.Mathlib.Omega.{arith}
-use native.Mathlib.Nat.{not-suc-le-zero, div-eq-of-lt, le-div-iff-mul-le, one-mul, lt-of-lt-of-le, le-trans}
+use native.Mathlib.Nat.{le-trans}
 use native.Mathlib.Decide.{decLt}
-use lib.Dec.{ltb, leb, eqb}
-use lib.Pow.{pow-pos, pow-mono}
+use lib.Dec.{leb, eqb}
+use lib.Pow.{pow-mono}
 use lib.ListN.{length, getD, take, drop, length-drop}
 use lib.Seq.{take-all}
-use borrow.Author.Tests.{leb-true, leb-false, le-leb, lt-leb, lt-ltb, le-ltb, ltb-true, eq-eqb, ne-eqb}
+use borrow.Author.Tests.{leb-true, le-leb, lt-leb, le-ltb, eq-eqb, ne-eqb}
 use Rattle.texts.specs.declared.numbers.Number.{Number}
 use Rattle.texts.specs.declared.numbers.Number.the-variants.{Small, Huge}
 use Rattle.texts.specs.Runs.{ascii, equal}
@@ -132,26 +132,6 @@ unfolding isDecimal ascii
 decimal-is t d a b p e q = rw (p, q, e)
 
 -- ---- too large for a width
-
--- a number shifted down by w is not 0 exactly if it is 2^w or more
-pub shifted-out : (x w : ℕ) → not (eqb (x / 2 ^ w) 0) ≡ leb (2 ^ w) x
-shifted-out x w = by-test (leb (2 ^ w) x) refl
-  where
-    lower : x < 2 ^ w → not (eqb (x / 2 ^ w) 0) ≡ leb (2 ^ w) x
-    lower h = rw (div-eq-of-lt h, lt-leb _ _ h)
-
-    upper : 2 ^ w ≤ x → not (eqb (x / 2 ^ w) 0) ≡ leb (2 ^ w) x
-    upper h =
-        let pos : 1 ≤ x / 2 ^ w = le-div-iff-mul-le (pow-pos w) .1 (rw one-mul h) in
-        let ne : (x / 2 ^ w ≡ 0 → ⊥) = λ e. omega arith in
-        rw (ne-eqb _ _ ne, le-leb _ _ h)
-
-    by-test : (t : Bool) → leb (2 ^ w) x ≡ t → not (eqb (x / 2 ^ w) 0) ≡ leb (2 ^ w) x
-    by-test true e = upper (leb-true _ _ e)
-    by-test false e = lower (leb-false _ _ e)
-
-pub wide-enough : (x w : ℕ) → x < 2 ^ 64 → 64 ≤ w → false ≡ leb (2 ^ w) x
-wide-enough x w h l = sym (lt-leb _ _ (lt-of-lt-of-le h (pow-mono l)))
 
 pub over-huge : (n : Number) (w : ℕ) → n ≡ Huge → true ≡ overflows n w
 over-huge n w e = rw e

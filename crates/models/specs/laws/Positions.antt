@@ -1,15 +1,15 @@
 -- Laws of where a name stands in a list, of marks and of words: which variable an entry is of, and which entry a variable has.
 use mathlib.Core.Path.{_≡_, refl, sym, ap, _∙_}
-use mathlib.Core.Bool.{Bool, true, false, cond, not, _&&_, _||_, false≢true, true≢false}
-use mathlib.Core.List.{List, [], _∷_, map}
-use Prim.Native.Nat.{ℕ, zero, suc, _+_, _-_, _≤_, _<_}
+use mathlib.Core.Bool.{Bool, true, false, cond, not, _||_, false≢true}
+use mathlib.Core.List.{List, [], _∷_}
+use Prim.Native.Nat.{ℕ, zero, suc, _-_, _≤_, _<_}
 use native.Mathlib.Omega.{arith}
 use native.Mathlib.Nat.{not-suc-le-zero, lt-suc-self}
 use native.Mathlib.Decide.{ℕ-discrete, decLt}
-use lib.Dec.{ltb, leb, eqb}
-use lib.ListN.{length, getD, set, length-set, length-replicate, getD-replicate, length-map, List·getD-map}
+use lib.Dec.{ltb, eqb}
+use lib.ListN.{length, getD, length-set, length-replicate, getD-replicate, length-map, List·getD-map}
 use lib.Seq.{getD-set-same, getD-set-other}
-use borrow.Author.Tests.{lt-ltb, le-ltb, ltb-true, ltb-false, eq-eqb, ne-eqb, eqb-true, eqb-false}
+use borrow.Author.Tests.{lt-ltb, le-ltb, ltb-false, eq-eqb, ne-eqb}
 use Rattle.texts.specs.Runs.{equal}
 use Rattle.texts.specs.laws.Runs.{equal-same, equal-self}
 use Rattle.texts.specs.Numbers.{numbered}
@@ -18,7 +18,7 @@ use Rattle.models.specs.Names.{position, isAgain, some}
 use Rattle.models.specs.Entries.{Entry, noEntry}
 use Rattle.models.specs.Judgement.{namesOf}
 use Rattle.models.specs.inner.Judging.{marksUp, wordsUp, small}
-use Rattle.models.specs.laws.Names.{some-each, some-found}
+use Rattle.models.specs.laws.Names.{some-each}
 
 -- ---- where a name stands
 

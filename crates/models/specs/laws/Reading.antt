@@ -1,8 +1,8 @@
 -- Laws of reading entry by entry: 32 to 34 so far, the marks and the values.
 use mathlib.Core.Path.{_≡_, refl, sym, ap, _∙_}
-use mathlib.Core.Bool.{Bool, true, false, not}
-use mathlib.Core.List.{List, [], _∷_}
-use Prim.Native.Nat.{ℕ, zero, suc, _+_, _-_, _≤_, _<_}
+use mathlib.Core.Bool.{Bool, not}
+use mathlib.Core.List.{List}
+use Prim.Native.Nat.{ℕ, _+_, _-_, _≤_, _<_}
 use native.Mathlib.Omega.{arith}
 use native.Mathlib.Numerals.{add-one}
 use lib.Dec.{eqb}
@@ -15,7 +15,7 @@ use Rattle.models.specs.declared.Judged.{Judged}
 use Rattle.models.specs.declared.Judged.the-variants.{Yes, Refused}
 use Rattle.models.specs.Tokens.{tokens}
 use Rattle.models.specs.Names.{names, position, isAgain}
-use Rattle.models.specs.Entries.{Entry, noEntry, entrySize, entryOf, body, entriesIn, entries}
+use Rattle.models.specs.Entries.{Entry, noEntry, entrySize, entryOf, entriesIn, entries}
 use Rattle.models.specs.Judgement.{refuse, _next_, firstSaid, variables, namesOf, misfits, unknownAt, againAt, misfitAt}
 use Rattle.models.specs.inner.Judging.{After, Begins, small, marksUp, wordsUp, Reading, entriesSaid, Read}
 use Rattle.models.specs.laws.Names.{rest-first}

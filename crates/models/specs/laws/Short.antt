@@ -7,7 +7,7 @@ use lib.Dec.{eqb}
 use lib.ListN.{length, getD, take, drop, length-drop}
 use Rattle.texts.specs.Runs.{ascii, equal}
 use Rattle.models.specs.Tokens.{isGap, pieceLength, tokenAt, tokens}
-use Rattle.models.specs.Entries.{Entry, entrySize, entryOf, stepOver, body, entriesIn, entries}
+use Rattle.models.specs.Entries.{entrySize, entryOf, stepOver, body, entriesIn, entries}
 use Rattle.models.specs.laws.Pieces.{chop-short}
 
 one-first : {A : Type 0} (t : Bool) (a : A) → length (cond t [] (a ∷ [])) ≤ 1

@@ -2,7 +2,7 @@
 use mathlib.Core.Path.{_≡_, refl, sym, ap, ap₂, _∙_}
 use mathlib.Core.Logic.{_↔_}
 use mathlib.Core.Bool.{Bool, true, false, not, _||_, true≢false}
-use mathlib.Core.List.{List, [], _∷_}
+use mathlib.Core.List.{List, []}
 use Prim.Native.Nat.{ℕ, zero, suc, _+_, _-_, _^_, _≤_, _<_}
 use native.Mathlib.Omega.{arith}
 use native.Mathlib.Nat.{lt-of-lt-of-le}
@@ -11,7 +11,6 @@ use lib.Dec.{leb, eqb}
 use lib.Pow.{pow-mono}
 use lib.ListN.{length, getD, set, length-set, length-replicate}
 use borrow.Author.Tests.{leb-false, eqb-true, eqb-false, not-false, eq-eqb, ne-eqb}
-use Rattle.texts.specs.Numbers.{numbered}
 use Rattle.words.specs.Agree.{Agrees}
 use Rattle.words.specs.laws.Agree.{agrees-of-within, lo-within, within-hi}
 use Rattle.problem.specs.declared.Refusal.{Refusal}
@@ -22,7 +21,7 @@ use Rattle.problem.specs.Layout.{nodeCount, rootCount, nodeAt, widthAt}
 use Rattle.problem.specs.Refusals.{bitOutside, checked}
 use Rattle.problem.specs.laws.Tests.{eq-yes, or-no, and-no}
 use Rattle.problem.specs.laws.Facts.{accepted-facts, within-right}
-use Rattle.evaluation.specs.Problem.{problem, zeros, evaluate, Variable}
+use Rattle.evaluation.specs.Problem.{problem, zeros, evaluate}
 use Rattle.evaluation.specs.Values.{VariablesAgree}
 use Rattle.evaluation.specs.inner.Evaluation.{Assigned}
 use Rattle.models.specs.declared.Judged.{Judged}
@@ -30,9 +29,9 @@ use Rattle.models.specs.declared.Judged.the-variants.{Yes, Refused}
 use Rattle.models.specs.Names.{names, position, isAgain, some}
 use Rattle.models.specs.Entries.{Entry, noEntry, isModel, entries}
 use Rattle.models.specs.Judgement.{ofProblem, listWrong, judged, refuse, _next_, firstSaid, variables, namesOf, misfits, unknownAt, againAt, misfitAt, absentAt, assignedUp, assigned, contradictedAt, zeroAt, judgedEntries, judgedText}
-use Rattle.models.specs.inner.Judging.{Kept, Listed, Named, Prepared, Placing, Sound, small, marksUp, wordsUp, placedUp, entriesSaid, Read, unmarkedAt, valuesSaid, isYes}
+use Rattle.models.specs.inner.Judging.{Kept, Listed, Named, Prepared, Placing, Sound, marksUp, wordsUp, placedUp, entriesSaid, Read, unmarkedAt, valuesSaid, isYes}
 use Rattle.models.specs.laws.First.{yes-is, answered, passed, refuse-given, refuse-not, next-stays, next-yes, next-assoc, next-left, next-right, not-refused, said-each, said-same}
-use Rattle.models.specs.laws.Positions.{position-most, names-length, marks-absent, marks-length, words-length, words-for, entry-name, entry-owner}
+use Rattle.models.specs.laws.Positions.{position-most, names-length, marks-absent, marks-length, words-length, words-for}
 use Rattle.models.specs.laws.Numbers.{small-is-it}
 use Rattle.models.specs.laws.Variables.{few-names, variable-count, variable-at, variable-below}
 use Rattle.models.specs.laws.Reading.{known-each}

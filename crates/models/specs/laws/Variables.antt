@@ -8,7 +8,7 @@ use native.Mathlib.Nat.{not-suc-le-zero}
 use native.Mathlib.Numerals.{add-one}
 use native.Mathlib.Decide.{decLt}
 use lib.Dec.{eqb}
-use lib.ListN.{length, getD, set, take, drop, length-set, length-append, length-replicate, List·getD-append}
+use lib.ListN.{length, getD, set, length-set, length-append, length-replicate, List·getD-append}
 use lib.Seq.{length-take-le, take-suc-set, getD-take, getD-append-seam}
 use borrow.Author.Tests.{eq-eqb, ne-eqb}
 use Rattle.problem.specs.Layout.{nodeCount, nodeAt}

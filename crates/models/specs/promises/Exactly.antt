@@ -3,18 +3,18 @@ use mathlib.Core.Path.{_≡_, refl, sym, ap, _∙_}
 use mathlib.Core.Logic.{_↔_}
 use mathlib.Core.Bool.{Bool, true, false, cond, false≢true, true≢false}
 use mathlib.Core.List.{List}
-use Prim.Native.Nat.{ℕ, zero, suc, _^_, _≤_, _<_}
+use Prim.Native.Nat.{ℕ, zero, suc, _<_}
 use native.Mathlib.Omega.{arith}
 use native.Mathlib.Decide.{ℕ-discrete}
-use lib.Dec.{lit<, eqb}
-use lib.ListN.{length, getD}
+use lib.Dec.{lit<}
+use lib.ListN.{getD}
 use borrow.Author.Tests.{eq-eqb, ne-eqb, eqb-true}
 use Rattle.problem.specs.declared.Checked.{Checked}
 use Rattle.problem.specs.declared.Checked.the-variants.{Accepted}
 use Rattle.problem.specs.declared.Checked.the-variants as checks
 use Rattle.problem.specs.Layout.{nodeCount, rootCount, rootAt}
 use Rattle.problem.specs.Refusals.{checked}
-use Rattle.evaluation.specs.Problem.{problem, evaluate, evalUp}
+use Rattle.evaluation.specs.Problem.{problem, evaluate}
 use Rattle.evaluation.specs.inner.Good.{Good}
 use Rattle.evaluation.specs.laws.Good.{good-of}
 use Rattle.evaluation.specs.laws.Values.{evalUp-lt}
@@ -27,7 +27,7 @@ use Rattle.models.specs.Answers.{rootOf}
 use Rattle.models.specs.inner.Judging.{isYes}
 use Rattle.models.specs.laws.First.{refused-not, said-each}
 use Rattle.models.specs.laws.Values.{assigned-of, assigned-room}
-use Rattle.models.specs.promises.Order.{First, first-exactly, all-yes, stages, stage, in-order, yes-in-order}
+use Rattle.models.specs.promises.Order.{first-exactly, all-yes, stages, stage, in-order, yes-in-order}
 
 -- no refusal is given, the problem's own or 30 to 36: the first eight stages say nothing
 unfoldable pub Unrefused : List ℕ → List ℕ → List ℕ → Type 0

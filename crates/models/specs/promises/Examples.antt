@@ -1,8 +1,7 @@
 -- The definitions, tried: name lists and texts with what is said of them, all computed. The problem is document 01's bytes of
 -- four nodes, 0 a variable of 8 bits whose lowest is fixed at 1, 1 a variable of 1 bit, 2 the constant 5, 3 whether 0 and 2 are
 -- equal; its roots are 3 and 1.
-use mathlib.Core.Path.{_≡_, refl}
-use mathlib.Core.Bool.{Bool, true, false, cond, _&&_}
+use mathlib.Core.Bool.{Bool, true, _&&_}
 use mathlib.Core.List.{List, [], _∷_, _++_}
 use Prim.Native.Nat.{ℕ, _+_, _*_}
 use Prim.Native.String.{String}

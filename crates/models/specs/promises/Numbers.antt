@@ -1,6 +1,6 @@
 -- "The place is 0 for 30 and 31, the earliest entry, from 0, for 32 to 34, the lowest id for 35 and 36": which numbers and places
 -- are told, and what each place is.
-use mathlib.Core.Path.{_≡_, refl, sym, ap, _∙_}
+use mathlib.Core.Path.{_≡_, refl, ap, _∙_}
 use mathlib.Core.Bool.{Bool, true, false, cond, _||_, true≢false}
 use mathlib.Core.List.{List}
 use mathlib.Core.Logic.{⊎-elim}
@@ -19,7 +19,7 @@ use Rattle.models.specs.declared.Judged.{Judged}
 use Rattle.models.specs.declared.Judged.the-variants.{Yes, No, Refused}
 use Rattle.models.specs.Names.{names}
 use Rattle.models.specs.Entries.{entries}
-use Rattle.models.specs.Judgement.{refuse, firstSaid, ofProblem, variables, listWrong, unknownAt, againAt, misfitAt, absentAt, assigned, contradictedAt, zeroAt, judged}
+use Rattle.models.specs.Judgement.{refuse, firstSaid, ofProblem, variables, listWrong, unknownAt, againAt, misfitAt, absentAt, contradictedAt, zeroAt, judged}
 use Rattle.models.specs.Answers.{numberOf, placeOf}
 use Rattle.models.specs.inner.Judging.{isYes}
 use Rattle.models.specs.laws.First.{yes-is, not-refused}
@@ -90,7 +90,7 @@ root-said s vs j r = by (eqb (getD vs (rootAt s j) 0) 0)
     by true e = rw (← e) (refl, refl)
     by false e = rw (← e) (refl, refl)
 
-pub or-left : (a b : Bool) → (a || b) ≡ false → a ≡ false
+or-left : (a b : Bool) → (a || b) ≡ false → a ≡ false
 or-left true b h = absurd (true≢false h)
 or-left false b h = refl
 

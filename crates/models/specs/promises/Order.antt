@@ -3,12 +3,11 @@
 -- of them.
 use mathlib.Core.Path.{_≡_, refl, sym, ap, _∙_}
 use mathlib.Core.Logic.{_↔_}
-use mathlib.Core.Bool.{Bool, true, false, not, false≢true, true≢false}
+use mathlib.Core.Bool.{Bool, true, false, not, true≢false}
 use mathlib.Core.List.{List, [], _∷_}
-use Prim.Native.Nat.{ℕ, zero, suc, _≤_, _<_}
+use Prim.Native.Nat.{ℕ, zero, suc, _<_}
 use native.Mathlib.Omega.{arith}
-use native.Mathlib.Nat.{not-suc-le-zero, lt-suc-self}
-use native.Mathlib.Decide.{ℕ-discrete}
+use native.Mathlib.Nat.{lt-suc-self}
 use lib.ListN.{length, getD}
 use Rattle.problem.specs.Layout.{nodeCount, rootCount}
 use Rattle.problem.specs.Refusals.{checked}
@@ -16,10 +15,10 @@ use Rattle.evaluation.specs.Problem.{problem, evaluate}
 use Rattle.models.specs.declared.Judged.{Judged}
 use Rattle.models.specs.declared.Judged.the-variants.{Yes, No, Refused}
 use Rattle.models.specs.Names.{names}
-use Rattle.models.specs.Entries.{Entry, isModel, entries}
+use Rattle.models.specs.Entries.{isModel, entries}
 use Rattle.models.specs.Judgement.{refuse, _next_, firstSaid, ofProblem, variables, listWrong, unknownAt, againAt, misfitAt, absentAt, assigned, contradictedAt, zeroAt, judgedEntries, judgedText, judged}
 use Rattle.models.specs.inner.Judging.{isYes}
-use Rattle.models.specs.laws.First.{yes-is, next-stays, next-yes, next-assoc, next-left, next-right, said-at, said-each}
+use Rattle.models.specs.laws.First.{yes-is, next-stays, next-yes, next-assoc, said-at, said-each}
 
 -- of f 0, .., f (n - 1) the one at place `at` is the first that says anything, and it says r
 pub record First (f : ℕ → Judged) (n : ℕ) (r : Judged) : Type 0 where

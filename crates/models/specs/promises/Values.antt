@@ -7,13 +7,12 @@ use Prim.Native.Nat.{ℕ, zero, suc, _^_, _≤_, _<_}
 use native.Mathlib.Omega.{arith}
 use native.Mathlib.Nat.{not-suc-le-zero}
 use native.Mathlib.Decide.{ℕ-discrete, decLt}
-use lib.Dec.{lit<, eqb}
-use lib.ListN.{length, getD, set, length-append, List·getD-append}
+use lib.Dec.{lit<, leb, eqb}
+use lib.ListN.{length, getD, length-append, List·getD-append}
 use lib.Seq.{getD-append-seam, getD-set-same, getD-set-other}
 use borrow.Author.Tests.{eqb-true, eqb-false, leb-false, ltb-false, not-false}
 use Rattle.problem.specs.Layout.{nodeCount, nodeAt, widthAt}
 use Rattle.problem.specs.laws.Facts.{accepted-facts}
-use Rattle.models.specs.declared.Judged.the-variants.{Yes}
 use Rattle.models.specs.Names.{names, position, isAgain, some}
 use Rattle.models.specs.Entries.{Entry, noEntry, entries}
 use Rattle.models.specs.Judgement.{variablesBelow, variables, listWrong, namesOf, misfits, againAt, misfitAt, absentAt, assignedUp, assigned}
@@ -21,9 +20,9 @@ use Rattle.models.specs.laws.First.{not-refused, said-each}
 use Rattle.models.specs.laws.Positions.{position-most, position-found, position-first, position-own, names-length, names-at}
 use Rattle.models.specs.laws.Variables.{below}
 use Rattle.models.specs.laws.Values.{assigned-length}
-use Rattle.models.specs.promises.Order.{stages, stage}
+use Rattle.models.specs.promises.Order.{stages}
 use Rattle.models.specs.promises.Exactly.{Unrefused, accepted}
-use Rattle.models.specs.promises.Numbers.{or-left, as-many}
+use Rattle.models.specs.promises.Numbers.{as-many}
 
 -- ---- variables ascend
 
@@ -89,15 +88,20 @@ or-right : (a b : Bool) → (a || b) ≡ false → b ≡ false
 or-right true b h = absurd (true≢false h)
 or-right false b h = h
 
+none-of : (a b c : Bool) → (a || b || c) ≡ false → (a ≡ false) × (b ≡ false) × (c ≡ false)
+none-of true b c h = absurd (true≢false h)
+none-of false true c h = absurd (true≢false h)
+none-of false false true h = absurd (true≢false h)
+none-of false false false h = (refl, refl, refl)
+
 -- an entry that fits a width
 fits-width : (w : ℕ) (e : Entry) → misfits w e ≡ false → (e .sort ≡ w) × (e .width ≡ w) × (e .value < 2 ^ w)
 unfolding misfits
 fits-width w e h =
-    let a : not (eqb (e .sort) w) ≡ false = or-left _ _ (or-left _ _ h) in
-    let b : not (eqb (e .width) w) ≡ false = or-right _ _ (or-left _ _ h) in
-    let v : e .width ≡ w = eqb-true (e .width) w (not-false _ b) in
-    let l : e .value < 2 ^ e .width = leb-false (2 ^ e .width) (e .value) (or-right _ _ h) in
-    (eqb-true (e .sort) w (not-false _ a), v, rw v at l)
+    let n = none-of (not (eqb (e .sort) w)) (not (eqb (e .width) w)) (leb (2 ^ e .width) (e .value)) h in
+    let v : e .width ≡ w = eqb-true (e .width) w (not-false _ (n .1)) in
+    let l : e .value < 2 ^ e .width = leb-false (2 ^ e .width) (e .value) (n .2) in
+    (eqb-true (e .sort) w (not-false _ (n .0)), v, rw v at l)
 
 module _ (s list text : List ℕ) (u : Unrefused s list text) (k : ℕ) (l : k < length (names list)) where
   abbrev ns : List (List ℕ)
@@ -133,7 +137,7 @@ module _ (s list text : List ℕ) (u : Unrefused s list text) (k : ℕ) (l : k <
   -- 30 is not given: the names differ, and there are as many as variables
   distinct : some (isAgain ns) (length ns) ≡ false
   unfolding Unrefused stages listWrong
-  distinct = or-right _ _ (not-refused 30 0 _ (u 1 (lit< tt)))
+  distinct = or-right (not (eqb (length ns) (length (variables s)))) (some (isAgain ns) (length ns)) (not-refused 30 0 _ (u 1 (lit< tt)))
 
   owner : position (getD es own noEntry .name) ns ≡ k
   owner = ap (λ (n : List ℕ). position n ns) own-named ∙ position-own ns distinct k l

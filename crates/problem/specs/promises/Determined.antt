@@ -2,7 +2,8 @@
 use mathlib.Core.Path.{_≡_, sym, _∙_}
 use mathlib.Core.Bool.{Bool, cond}
 use mathlib.Core.List.{List}
-use Prim.Native.Nat.{ℕ}
+use Prim.Native.Nat.{ℕ, _^_}
+use lib.Dec.{leb}
 use Rattle.problem.specs.declared.Checked.{Checked}
 use Rattle.problem.specs.declared.Checked.the-variants.{Accepted}
 use Rattle.problem.specs.declared.layout.Node.{Node}
@@ -22,6 +23,9 @@ pub line-determined :
     → s ≡ (before then cond given (refusal number place) Accepted)
     → r ≡ s
 line-determined before number given place r s = equal
+
+pub over-width-determined : (x w : ℕ) (r s : Bool) → r ≡ leb (2 ^ w) x → s ≡ leb (2 ^ w) x → r ≡ s
+over-width-determined x w r s = equal
 
 -- ---- layout
 pub u16-at-determined : (b : List ℕ) (p r s : ℕ) → r ≡ le16 b p → s ≡ le16 b p → r ≡ s

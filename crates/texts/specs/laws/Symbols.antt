@@ -1,12 +1,11 @@
 -- The bytes of simple symbols, as ranges.
-use mathlib.Core.Path.{_≡_, refl, sym, _∙_}
+use mathlib.Core.Path.{_≡_, refl, sym}
 use mathlib.Core.Bool.{Bool, true, false, not, _&&_, _||_, false≢true}
-use mathlib.Core.List.{List, [], _∷_}
 use Prim.Native.Nat.{ℕ, zero, suc, _<_}
 use native.Mathlib.Omega.{arith}
 use native.Mathlib.Nat.{not-suc-le-zero}
 use native.Mathlib.Decide.{ℕ-discrete}
-use lib.Dec.{T, leb, eqb}
+use lib.Dec.{leb, eqb}
 use Rattle.texts.specs.Runs.{ascii, isLower, isOneOf, isSymbolByte}
 use Rattle.texts.specs.laws.Runs.{both-true}
 

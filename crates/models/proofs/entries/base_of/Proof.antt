@@ -1,6 +1,4 @@
 -- By the first two bytes.
-use mathlib.Core.Path.{_≡_, refl, sym, _∙_}
-use native.Mathlib.Omega.{arith}
 use borrow.Author.Needs.{needs}
 use Rattle.models.specs.laws.Numbers.{base-two, base-sixteen, base-none}
 use Rattle.models.proofs.entries.base_of.Statement.{statement}

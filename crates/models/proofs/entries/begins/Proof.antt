@@ -1,6 +1,4 @@
 -- Byte by byte.
-use mathlib.Core.Path.{_≡_, refl, sym, _∙_}
-use native.Mathlib.Omega.{arith}
 use borrow.Author.Needs.{needs}
 use denote.Ref.{now}
 use Rattle.models.specs.laws.Numbers.{begins-short, begins-long}

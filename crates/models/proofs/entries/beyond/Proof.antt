@@ -1,6 +1,4 @@
 -- What is left after two bytes, or nothing.
-use mathlib.Core.Path.{_≡_, refl, sym, _∙_}
-use native.Mathlib.Omega.{arith}
 use borrow.Author.Needs.{needs}
 use denote.Ref.{now}
 use Rattle.models.specs.laws.Numbers.{beyond-short, beyond-long}

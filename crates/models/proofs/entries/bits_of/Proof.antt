@@ -1,6 +1,4 @@
 -- One bit a digit, or four.
-use mathlib.Core.Path.{_≡_, refl, sym, _∙_}
-use native.Mathlib.Omega.{arith}
 use borrow.Author.Needs.{needs}
 use Rattle.models.specs.laws.Numbers.{bits-two, bits-few, bits-many}
 use Rattle.models.proofs.entries.bits_of.Statement.{statement}

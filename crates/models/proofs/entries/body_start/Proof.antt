@@ -1,6 +1,4 @@
 -- By the second token.
-use mathlib.Core.Path.{_≡_, refl, sym, _∙_}
-use native.Mathlib.Omega.{arith}
 use borrow.Author.Needs.{needs}
 use Rattle.texts.specs.Runs.{ascii}
 use Rattle.models.specs.laws.Entries.{begins-model, begins-bare}

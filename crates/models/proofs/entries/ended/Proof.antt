@@ -1,8 +1,5 @@
 -- Nothing but gaps up to the end.
-use mathlib.Core.Path.{_≡_, refl, sym, _∙_}
-use native.Mathlib.Omega.{arith}
 use borrow.Author.Needs.{needs}
-use denote.Ref.{now}
 use Rattle.models.specs.laws.Tokens.{ended-is}
 use Rattle.models.proofs.entries.ended.Statement.{statement}
 use Rattle.models.proofs.entries.ended.Tie as tie

@@ -1,8 +1,6 @@
 -- Part by part, and then one of two values.
-use mathlib.Core.Path.{_≡_, refl, sym, ap, _∙_}
 use native.Mathlib.Omega.{arith}
 use borrow.Author.Needs.{needs}
-use denote.Ref.{now}
 use Rattle.models.specs.laws.Entries.{passed-all, passed-not, not-first, not-second, not-third, with-literal, with-decimal, with-neither}
 use Rattle.models.proofs.entries.entry_at.Statement.{statement}
 use Rattle.models.proofs.entries.entry_at.Tie as tie

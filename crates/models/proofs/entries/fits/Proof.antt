@@ -1,6 +1,4 @@
 -- Slot by slot.
-use mathlib.Core.Path.{_≡_, refl, sym, _∙_}
-use native.Mathlib.Omega.{arith}
 use borrow.Author.Needs.{needs}
 use Rattle.texts.specs.Runs.{ascii}
 use Rattle.models.specs.Entries.{fits}

@@ -1,6 +1,4 @@
 -- By the first two bytes and the rest.
-use mathlib.Core.Path.{_≡_, refl, sym, _∙_}
-use native.Mathlib.Omega.{arith}
 use borrow.Author.Needs.{needs}
 use Rattle.models.specs.laws.Numbers.{decimal-is}
 use Rattle.models.proofs.entries.is_decimal.Statement.{statement}

@@ -1,6 +1,4 @@
 -- Digits, with no 0 before others.
-use mathlib.Core.Path.{_≡_, refl, sym, _∙_}
-use native.Mathlib.Omega.{arith}
 use borrow.Author.Needs.{needs}
 use Rattle.models.specs.laws.Numbers.{numeral-is}
 use Rattle.models.proofs.entries.is_numeral.Statement.{statement}

@@ -1,6 +1,5 @@
 -- The two widths, and the value.
-use mathlib.Core.Path.{_≡_, refl, sym, ap, _∙_}
-use native.Mathlib.Omega.{arith}
+use mathlib.Core.Path.{_∙_}
 use borrow.Author.Needs.{needs}
 use Rattle.models.specs.laws.Numbers.{misfits-is, width-most}
 use Rattle.models.proofs.entries.item_at.Statement.{statement}
@@ -16,7 +15,7 @@ sort-at-requires : tie.Need-sort-at-requires
 sort-at-requires c κs = c .before .before .before .pre .0
 
 overflow-requires : tie.Need-overflow-requires
-overflow-requires c κs = search needs
+overflow-requires c κs = rw (c .before .before .value-width .ensures) (width-most _)
 
 word-of-requires : tie.Need-word-of-requires
 word-of-requires c κs = search needs

@@ -1,6 +1,4 @@
 -- By the digits after the first two bytes.
-use mathlib.Core.Path.{_≡_, refl, sym, _∙_}
-use native.Mathlib.Omega.{arith}
 use borrow.Author.Needs.{needs}
 use borrow.Author.Tests.{not-true, not-false}
 use Rattle.models.specs.laws.Numbers.{literal-none, literal-some}

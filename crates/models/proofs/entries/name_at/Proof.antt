@@ -1,5 +1,5 @@
 -- The token, without its bars.
-use mathlib.Core.Path.{_≡_, refl, sym, ap, _∙_}
+use mathlib.Core.Path.{ap, _∙_}
 use borrow.Author.Needs.{needs}
 use Rattle.models.specs.Names.{inside}
 use Rattle.models.proofs.entries.name_at.Statement.{statement}

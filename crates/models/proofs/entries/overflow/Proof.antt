@@ -1,5 +1,4 @@
 -- By what 64 bits tell of the number.
-use mathlib.Core.Path.{_≡_, refl, sym, _∙_}
 use native.Mathlib.Omega.{arith}
 use borrow.Author.Needs.{needs}
 use Rattle.models.specs.laws.Numbers.{over-huge, over-small}
@@ -15,11 +14,22 @@ enum-told c = search needs
 returns : tie.Need-returns
 returns c = over-huge _ _ (c .enum-told .given .1)
 
-too-large-requires : tie.Need-too-large-requires
-too-large-requires c κs = search needs
+cast-over-width : tie.Need-cast-over-width
+cast-over-width c = omega (arith, c .before .before .before .pre)
+
+over-width-requires : tie.Need-over-width-requires
+over-width-requires c κs = search needs
 
 returns-2 : tie.Need-returns-2
-returns-2 c = over-small _ _ _ _ (c .before .before .n .given .1) (c .too-large .ensures)
+returns-2 c = over-small _ _ _ _ (c .before .before .n .given .1) (c .over-width .ensures)
 
 pub overflow-spec : {M : Type 1} → statement M
-overflow-spec = tie.close (tie.spec enum-known-n enum-told returns too-large-requires returns-2)
+overflow-spec =
+    tie.close
+    (tie.spec
+    enum-known-n
+    enum-told
+    returns
+    cast-over-width
+    over-width-requires
+    returns-2)

@@ -1,10 +1,9 @@
 -- The loop's invariant: all slots fit exactly if those from i on do, and those before have been passed.
-use mathlib.Core.Path.{_≡_, refl, sym, ap, _∙_}
+use mathlib.Core.Path.{_≡_, refl}
 use native.Mathlib.Omega.{arith}
 use borrow.Author.Needs.{needs}
 use denote.Ref.{now}
 use Prim.Native.Nat.{_-_, _≤_}
-use lib.ListN.{length}
 use borrow.Author.Tests.{not-true, not-false}
 use Rattle.models.specs.inner.Judging.{After, matchesPart}
 use Rattle.models.specs.laws.Tokens.{piece-inside, next-found, next-after}

@@ -1,6 +1,5 @@
 -- The table is the form.
-use mathlib.Core.Path.{_≡_, refl, sym, _∙_}
-use native.Mathlib.Omega.{arith}
+use mathlib.Core.Path.{refl}
 use borrow.Author.Needs.{needs}
 use Rattle.models.specs.Entries.{heading, literal, decimal}
 use Rattle.models.specs.inner.Judging.{form}

@@ -1,5 +1,5 @@
 -- The token, as a width.
-use mathlib.Core.Path.{_≡_, refl, sym, ap, _∙_}
+use mathlib.Core.Path.{ap, _∙_}
 use borrow.Author.Needs.{needs}
 use Rattle.models.specs.Entries.{widthSaid}
 use Rattle.models.proofs.entries.sort_at.Statement.{statement}

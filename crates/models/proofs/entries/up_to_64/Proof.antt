@@ -1,7 +1,4 @@
 -- By the comparison.
-use mathlib.Core.Path.{_≡_, refl, sym, _∙_}
-use native.Mathlib.Omega.{arith}
-use borrow.Author.Needs.{needs}
 use Rattle.models.specs.laws.Numbers.{up-low, up-high}
 use Rattle.models.proofs.entries.up_to_64.Statement.{statement}
 use Rattle.models.proofs.entries.up_to_64.Tie as tie

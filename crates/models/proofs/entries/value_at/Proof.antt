@@ -1,6 +1,4 @@
 -- A literal's digits, or those of the decimal.
-use mathlib.Core.Path.{_≡_, refl, sym, ap, _∙_}
-use native.Mathlib.Omega.{arith}
 use borrow.Author.Needs.{needs}
 use Rattle.models.specs.laws.Numbers.{literal-base}
 use Rattle.models.specs.laws.Entries.{says-value, says-decimal}

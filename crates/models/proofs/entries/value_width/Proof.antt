@@ -1,6 +1,4 @@
 -- A literal's width, or that of the decimal.
-use mathlib.Core.Path.{_≡_, refl, sym, ap, _∙_}
-use native.Mathlib.Omega.{arith}
 use borrow.Author.Needs.{needs}
 use Rattle.models.specs.laws.Entries.{says-width, says-other-width}
 use Rattle.models.proofs.entries.value_width.Statement.{statement}

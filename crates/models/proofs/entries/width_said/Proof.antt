@@ -1,6 +1,4 @@
 -- By what the text says as a number.
-use mathlib.Core.Path.{_≡_, refl, sym, _∙_}
-use native.Mathlib.Omega.{arith}
 use borrow.Author.Needs.{needs}
 use borrow.Author.Tests.{not-true, not-false}
 use Rattle.models.specs.laws.Numbers.{said-none, said-huge, said-small}

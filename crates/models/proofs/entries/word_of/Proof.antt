@@ -1,5 +1,4 @@
 -- By what 64 bits tell of the number.
-use mathlib.Core.Path.{_≡_, refl, sym, ap, _∙_}
 use borrow.Author.Needs.{needs}
 use Rattle.models.specs.laws.Numbers.{small-some, small-none}
 use Rattle.models.proofs.entries.word_of.Statement.{statement}

@@ -1,7 +1,6 @@
 -- The loop's invariant: the first k variables are marked.
-use mathlib.Core.Path.{_≡_, refl, sym, _∙_}
+use mathlib.Core.Path.{_≡_, refl}
 use native.Mathlib.Omega.{arith}
-use borrow.Author.Needs.{needs}
 use Prim.Native.Nat.{_-_, _≤_}
 use lib.ListN.{length}
 use Rattle.models.specs.declared.Judged.the-variants.{Yes}

@@ -1,10 +1,8 @@
 -- The loop's invariant: the first k values are in their places.
-use mathlib.Core.Path.{_≡_, refl, sym, _∙_}
+use mathlib.Core.Path.{_≡_, refl, _∙_}
 use native.Mathlib.Omega.{arith}
-use borrow.Author.Needs.{needs}
 use Prim.Native.Nat.{_-_, _≤_}
 use lib.ListN.{length, length-set}
-use denote.Ref.{now}
 use Rattle.models.specs.inner.Judging.{placedUp}
 use Rattle.models.specs.laws.Values.{below-length, placed-none, placed-more, placed-all}
 use Rattle.models.proofs.judging.assign.Statement.{statement}

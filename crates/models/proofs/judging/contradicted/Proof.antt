@@ -1,6 +1,5 @@
 -- A line of the definition.
-use mathlib.Core.Path.{_≡_, refl, sym, _∙_}
-use native.Mathlib.Omega.{arith}
+use mathlib.Core.Path.{refl, _∙_}
 use borrow.Author.Needs.{needs}
 use Rattle.problem.specs.Refusals.{bitOutside}
 use Rattle.problem.specs.laws.Facts.{accepted-facts, node-inside}

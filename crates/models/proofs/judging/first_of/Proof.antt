@@ -1,6 +1,4 @@
 -- The second where the first says nothing.
-use mathlib.Core.Path.{_≡_, refl, sym, _∙_}
-use native.Mathlib.Omega.{arith}
 use borrow.Author.Needs.{needs}
 use Rattle.models.specs.laws.First.{line-stays, line-next}
 use Rattle.models.proofs.judging.first_of.Statement.{statement}

@@ -1,9 +1,8 @@
 -- The loop's invariant: none of the first j roots is 0.
-use mathlib.Core.Path.{_≡_, refl, sym, _∙_}
+use mathlib.Core.Path.{_≡_, refl}
 use native.Mathlib.Omega.{arith}
 use borrow.Author.Needs.{needs}
 use Prim.Native.Nat.{_-_, _≤_}
-use Rattle.problem.specs.Layout.{rootCount}
 use Rattle.models.specs.declared.Judged.the-variants.{Yes}
 use Rattle.models.specs.Judgement.{firstSaid, zeroAt}
 use Rattle.models.specs.laws.First.{zero-found, zero-not, said-none, said-more, said-at, said-end}

@@ -1,9 +1,7 @@
 -- 30, then what is left.
-use mathlib.Core.Path.{_≡_, refl, sym, ap, _∙_}
-use native.Mathlib.Omega.{arith}
+use mathlib.Core.Path.{sym, _∙_}
 use borrow.Author.Needs.{needs}
 use denote.Ref.{now}
-use borrow.Author.Tests.{not-true, not-false}
 use Rattle.models.specs.laws.Values.{wrong-count, named-of, digests-room, wrong-twice, right-list, list-wrong, list-right}
 use Rattle.models.proofs.judging.judge_accepted.Statement.{statement}
 use Rattle.models.proofs.judging.judge_accepted.Tie as tie

@@ -1,10 +1,7 @@
 -- 35, then 36, then the roots.
-use mathlib.Core.Path.{_≡_, refl, sym, _∙_}
-use native.Mathlib.Omega.{arith}
+use mathlib.Core.Path.{sym, _∙_}
 use borrow.Author.Needs.{needs}
-use denote.Ref.{now}
 use borrow.Author.Tests.{not-true, not-false}
-use Rattle.problem.specs.laws.Facts.{accepted-facts}
 use Rattle.models.specs.laws.First.{yes-is, answered}
 use Rattle.models.specs.laws.Values.{sound-of, assigned-of, values-wrong, values-zero}
 use Rattle.models.proofs.judging.judge_values.Statement.{statement}

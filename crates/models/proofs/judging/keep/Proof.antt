@@ -1,5 +1,4 @@
 -- The node's kind tells.
-use mathlib.Core.Path.{_≡_, refl, sym, _∙_}
 use native.Mathlib.Omega.{arith}
 use borrow.Author.Needs.{needs}
 use Rattle.problem.specs.laws.Facts.{accepted-facts, node-inside}

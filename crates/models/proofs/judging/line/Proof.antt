@@ -1,6 +1,4 @@
 -- By what was said before, and by this one.
-use mathlib.Core.Path.{_≡_, refl, sym, _∙_}
-use native.Mathlib.Omega.{arith}
 use borrow.Author.Needs.{needs}
 use borrow.Author.Tests.{not-true, not-false}
 use Rattle.models.specs.laws.First.{line-stays, line-given, line-passed}

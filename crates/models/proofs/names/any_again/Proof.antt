@@ -1,7 +1,6 @@
 -- The loop's invariant: none of the first k names stands earlier.
-use mathlib.Core.Path.{_≡_, refl, sym, ap, _∙_}
+use mathlib.Core.Path.{_≡_}
 use native.Mathlib.Omega.{arith}
-use borrow.Author.Needs.{needs}
 use Prim.Native.Nat.{_-_, _≤_}
 use mathlib.Core.Bool.{false}
 use Rattle.models.specs.Names.{names, isAgain, some}

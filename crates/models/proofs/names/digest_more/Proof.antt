@@ -1,6 +1,5 @@
 -- A sum and a product, both modulo 2^64.
-use mathlib.Core.Path.{_≡_, refl, sym, ap, _∙_}
-use native.Mathlib.Omega.{arith}
+use mathlib.Core.Path.{_∙_}
 use borrow.Author.Needs.{needs}
 use Rattle.models.specs.inner.Judging.{digestMore}
 use Rattle.models.proofs.names.digest_more.Statement.{statement}

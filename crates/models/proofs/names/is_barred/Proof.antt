@@ -1,5 +1,4 @@
 -- By the length, then by the first and the last byte.
-use mathlib.Core.Path.{_≡_, refl, sym, _∙_}
 use native.Mathlib.Omega.{arith}
 use borrow.Author.Needs.{needs}
 use Rattle.models.specs.laws.Names.{barred-short, barred-long}

@@ -1,6 +1,4 @@
 -- One or the other.
-use mathlib.Core.Path.{_≡_, refl, sym, _∙_}
-use native.Mathlib.Omega.{arith}
 use borrow.Author.Needs.{needs}
 use Rattle.models.specs.laws.Names.{name-is}
 use Rattle.models.proofs.names.is_name.Statement.{statement}

@@ -1,6 +1,4 @@
 -- The run of a symbol's bytes is all of it.
-use mathlib.Core.Path.{_≡_, refl, sym, _∙_}
-use native.Mathlib.Omega.{arith}
 use borrow.Author.Needs.{needs}
 use Rattle.models.specs.laws.Names.{simple-is}
 use Rattle.models.proofs.names.is_simple.Statement.{statement}

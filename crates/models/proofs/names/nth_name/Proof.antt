@@ -1,8 +1,5 @@
 -- The list's part between its places.
-use mathlib.Core.Path.{_≡_, refl, sym, _∙_}
 use native.Mathlib.Omega.{arith}
-use borrow.Author.Needs.{needs}
-use denote.Ref.{now}
 use Rattle.models.specs.laws.Names.{placed-at, part-is}
 use Rattle.models.proofs.names.nth_name.Statement.{statement}
 use Rattle.models.proofs.names.nth_name.Tie as tie

@@ -1,7 +1,5 @@
 -- The loop's invariant: the place is that after i tokens.
-use mathlib.Core.Path.{_≡_, refl, sym, _∙_}
 use native.Mathlib.Omega.{arith}
-use borrow.Author.Needs.{needs}
 use Prim.Native.Nat.{_-_, _≤_}
 use Rattle.models.specs.inner.Judging.{After}
 use Rattle.models.specs.laws.Tokens.{after-none, after-more, after-all}

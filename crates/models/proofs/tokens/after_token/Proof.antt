@@ -1,6 +1,4 @@
 -- After the piece, one token fewer is left.
-use mathlib.Core.Path.{_≡_, refl, sym, _∙_}
-use native.Mathlib.Omega.{arith}
 use borrow.Author.Needs.{needs}
 use Rattle.models.specs.laws.Tokens.{next-after}
 use Rattle.models.proofs.tokens.after_token.Statement.{statement}

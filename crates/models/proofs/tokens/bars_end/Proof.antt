@@ -1,5 +1,4 @@
 -- The second bar belongs to the symbol, where there is one.
-use mathlib.Core.Path.{_≡_, refl, sym, _∙_}
 use native.Mathlib.Omega.{arith}
 use borrow.Author.Needs.{needs}
 use Rattle.models.specs.laws.Tokens.{bars-closed, bars-open}

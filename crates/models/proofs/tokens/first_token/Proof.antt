@@ -1,6 +1,4 @@
 -- What stands between the gaps' end and the piece's.
-use mathlib.Core.Path.{_≡_, refl, sym, _∙_}
-use native.Mathlib.Omega.{arith}
 use borrow.Author.Needs.{needs}
 use Rattle.models.specs.laws.Tokens.{piece-inside, next-found}
 use Rattle.models.proofs.tokens.first_token.Statement.{statement}

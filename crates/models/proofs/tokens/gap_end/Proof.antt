@@ -1,8 +1,5 @@
 -- A comment, or one byte.
-use mathlib.Core.Path.{_≡_, refl, sym, ap, _∙_}
-use native.Mathlib.Omega.{arith}
 use borrow.Author.Needs.{needs}
-use denote.Ref.{now}
 use Rattle.models.specs.laws.Tokens.{gap-comment, gap-white}
 use Rattle.models.proofs.tokens.gap_end.Statement.{statement}
 use Rattle.models.proofs.tokens.gap_end.Tie as tie

@@ -1,6 +1,4 @@
 -- Token k is the first after k tokens.
-use mathlib.Core.Path.{_≡_, refl, sym, _∙_}
-use native.Mathlib.Omega.{arith}
 use borrow.Author.Needs.{needs}
 use Rattle.models.specs.laws.Tokens.{token-at}
 use Rattle.models.proofs.tokens.token.Statement.{statement}

@@ -1,5 +1,5 @@
 -- Whether one digit more fits is a comparison with what it leaves, divided by the base.
-use mathlib.Core.Path.{_≡_, refl, sym, _∙_}
+use mathlib.Core.Path.{sym}
 use native.Mathlib.Omega.{arith}
 use Rattle.texts.specs.laws.Numbers.{numbered-small, numbered-huge, fits-small, fits-huge}
 use borrow.Author.Needs.{needs}

@@ -1,6 +1,5 @@
 -- Range by range.
 use native.Mathlib.Omega.{arith}
-use lib.Dec.{lit≤}
 use Rattle.texts.specs.laws.Numbers.{between, digit-decimal, digit-small, digit-large, digit-none}
 use Rattle.texts.proofs.numbers.digit_of.Statement.{statement}
 use Rattle.texts.proofs.numbers.digit_of.Tie as tie

@@ -1,6 +1,5 @@
 -- Class by class.
-use Rattle.texts.specs.Runs.{isBlank, isLower, isIn}
-use mathlib.Core.Path.{_≡_, refl, sym, _∙_}
+use Rattle.texts.specs.Runs.{isLower, isIn}
 use borrow.Author.Needs.{needs}
 use Rattle.texts.proofs.runs.is_in.Statement.{statement}
 use Rattle.texts.proofs.runs.is_in.Tie as tie

@@ -1,7 +1,5 @@
 -- The ranges hold the bytes that the symbol's definition names: one computed test.
-use mathlib.Core.Path.{_≡_, refl, sym, _∙_}
 use native.Mathlib.Omega.{arith}
-use borrow.Author.Needs.{needs}
 use Rattle.texts.specs.laws.Symbols.{symbol-ranges}
 use Rattle.texts.proofs.runs.is_symbol_byte.Statement.{statement}
 use Rattle.texts.proofs.runs.is_symbol_byte.Tie as tie

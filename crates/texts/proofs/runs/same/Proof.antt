@@ -1,9 +1,8 @@
 -- The loop's invariant: the two are the same exactly if they are from i on.
-use mathlib.Core.Path.{_≡_, refl, sym, _∙_}
-use Prim.Native.Nat.{_+_, _-_, _≤_}
+use mathlib.Core.Path.{_≡_, refl, sym}
+use Prim.Native.Nat.{_-_, _≤_}
 use native.Mathlib.Omega.{arith}
 use lib.ListN.{length, drop}
-use borrow.Author.Needs.{needs}
 use Rattle.texts.specs.Runs.{equal}
 use Rattle.texts.specs.laws.Runs.{equal-length, equal-turn, equal-differs, equal-end}
 use Rattle.texts.proofs.runs.same.Statement.{statement}
