@@ -26,7 +26,7 @@
 extern "C" {
 #endif
 
-enum { WAL_STACK = 17408, WAL_MODEL_STACK = 40960 };
+enum { WAL_STACK = 17408, WAL_MODEL_STACK = 49152 };
 
 /* What a node computes. Fields a, b, c of a node name its operands; extract's b is its lowest bit. */
 enum {

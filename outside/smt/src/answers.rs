@@ -192,25 +192,29 @@ impl Asked {
 
 /// A text with another digit in one of its values: names that hold `#b`, `#x` or `bv` are not among ours.
 fn with_another_value(rng: &mut Rng, text: &str) -> Option<String> {
-    let starts = |mark: &str| text.match_indices(mark).map(|(at, _)| at + mark.len()).collect::<Vec<_>>();
-    let (binary, hex, decimal) = (starts("#b"), starts("#x"), starts("bv"));
-    let values: Vec<(usize, u32)> = [(binary, 2), (hex, 16), (decimal, 10)]
-        .into_iter()
-        .flat_map(|(at, base)| at.into_iter().map(move |at| (at, base)))
-        .collect();
+    let starts = |mark: &'static str, base: u32| {
+        text.match_indices(mark).map(move |(at, mark)| (at + mark.len(), base)).collect::<Vec<_>>()
+    };
+    let values = [starts("#b", 2), starts("#x", 16), starts("bv", 10)].concat();
     if values.is_empty() {
         return None;
     }
-    let (start, base) = rng.one_of(&values);
+    (0..50).find_map(|_| {
+        let (start, base) = rng.one_of(&values);
+        with_another_digit(rng, text, start, base)
+    })
+}
+
+/// The text with another digit in the value that starts at a place; none where it cannot have one.
+fn with_another_digit(rng: &mut Rng, text: &str, start: usize, base: u32) -> Option<String> {
     let length = text[start..].find(|c: char| !c.is_digit(base)).unwrap_or(text.len() - start);
-    let mut digits: Vec<char> = text[start..start + length].chars().collect();
     // The first digit of a decimal stays, and none becomes greater: the value must fit its width.
     let first = usize::from(base == 10 && length > 1);
-    let at = rng.between(first, length - 1);
-    let most = if base == 10 { digits[at].to_digit(10)?.max(1) } else { base };
-    digits[at] = char::from_digit(rng.below(most as usize) as u32, base)?;
-    let changed: String = digits.into_iter().collect();
-    Some([&text[..start], &changed, &text[start + length..]].concat())
+    let at = start + rng.between(first, length - 1);
+    let digit = text[at..].chars().next()?.to_digit(base)?;
+    let other = rng.below(if base == 10 { digit as usize + 1 } else { base as usize }) as u32;
+    let other = char::from_digit(other, base).filter(|_| other != digit)?;
+    Some(format!("{}{other}{}", &text[..at], &text[at + 1..]))
 }
 
 /// z3 must call the values of each a solution exactly if the library said yes.
