@@ -222,19 +222,22 @@ fn answers(line: &Line, cases: u64, out: &Path) -> Result<(), String> {
         return Err("plain Rust does not read other solvers' models".into());
     }
     let start = Instant::now();
-    let counts = models::compare(&Library, line.seed, cases).map_err(|difference| {
+    let kept = |difference: Box<models::Difference>| {
         let written = written(models::write_files(&difference.answer, out), out);
-        format!(
-            "difference at answer {} of seed {}: {}; {written}",
-            difference.index, line.seed, difference.what
-        )
-    })?;
+        let (index, what) = (difference.index, difference.what);
+        format!("difference at answer {index} of seed {}: {what}; {written}", line.seed)
+    };
+    let counts = models::compare(&Library, line.seed, cases).map_err(kept)?;
+    let damaged = models::compare_each_byte(&Library, line.seed).map_err(kept)?;
     println!("yes {:>8}\nno  {:>8}", counts.yes, counts.no);
     for number in (1..counts.refusals.len()).filter(|&number| counts.refusals[number] > 0) {
         println!("refusal {number:<3} {:>8}", counts.refusals[number]);
     }
     println!("every order of two of refusals 30 to 36, the earlier told, {} times or more", counts.rarest());
-    println!("models: {cases} answers, no difference, {}", seconds(start));
+    println!(
+        "models: {cases} answers, {damaged} more with one byte damaged, no difference, {}",
+        seconds(start)
+    );
     match counts.missing().as_slice() {
         [] => Ok(()),
         missing => Err(format!("never reached: {}", missing.join(", "))),

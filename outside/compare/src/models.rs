@@ -108,7 +108,8 @@ pub fn compare(subject: &impl Judge, seed: u64, cases: u64) -> Result<Counts, Bo
     Ok(counts)
 }
 
-fn compare_one(subject: &impl Judge, rng: &mut Rng, a: &Answer, counts: &mut Counts) -> Result<(), String> {
+/// What both say of an answer, which must be the same.
+fn compare_answer(subject: &impl Judge, a: &Answer) -> Result<(u64, [u64; MODEL_OUT]), String> {
     let (mut out, mut expected) = ([7; MODEL_OUT + 1], [7; MODEL_OUT + 1]);
     let refusal = subject.model(&a.problem, &a.names, &a.text, &mut out);
     let due = Model.model(&a.problem, &a.names, &a.text, &mut expected);
@@ -116,7 +117,12 @@ fn compare_one(subject: &impl Judge, rng: &mut Rng, a: &Answer, counts: &mut Cou
         let (found, due) = (refusal_shown(refusal), refusal_shown(due));
         return Err(format!("model answered {found} {out:?}, expected {due} {expected:?}"));
     }
-    counts.see(a, refusal, [out[0], out[1]]);
+    Ok((refusal, [out[0], out[1]]))
+}
+
+fn compare_one(subject: &impl Judge, rng: &mut Rng, a: &Answer, counts: &mut Counts) -> Result<(), String> {
+    let (refusal, out) = compare_answer(subject, a)?;
+    counts.see(a, refusal, out);
     // Too few words for the answer: it must say so, and write nothing.
     let (room, mut short) = (rng.below(MODEL_OUT), [7; MODEL_OUT]);
     let refusal = subject.model(&a.problem, &a.names, &a.text, &mut short[..room]);
@@ -124,6 +130,57 @@ fn compare_one(subject: &impl Judge, rng: &mut Rng, a: &Answer, counts: &mut Cou
         return Err(format!("model with {room} words for the answer is {}", refusal_shown(refusal)));
     }
     Ok(())
+}
+
+/// How many short answers are damaged byte by byte.
+const DAMAGED: usize = 6;
+
+/// Short answers that were a yes, with each byte of text and list changed to every other, taken out, and with every byte put in
+/// before it; gives how many there were.
+pub fn compare_each_byte(subject: &impl Judge, seed: u64) -> Result<u64, Box<Difference>> {
+    let is_short = |a: &Answer| (60..300).contains(&a.text.len()) && a.names.len() < 40;
+    let says_yes = |a: &Answer| {
+        let mut out = [0; MODEL_OUT];
+        Model.model(&a.problem, &a.names, &a.text, &mut out) == 0 && out[0] == 1
+    };
+    let answers: Vec<(u64, Answer)> = (0..)
+        .map(|index| (index, answer(seed, index)))
+        .filter(|(_, a)| is_short(a) && says_yes(a))
+        .take(DAMAGED)
+        .collect();
+    let counted = parts::each(&answers, |(index, a)| {
+        let mut counted = 0;
+        for changed in each_text(a).chain(each_list(a)) {
+            if let Err(what) = compare_answer(subject, &changed) {
+                return Err(Box::new(Difference { index: *index, what, answer: changed }));
+            }
+            counted += 1;
+        }
+        Ok(counted)
+    })?;
+    Ok(counted.iter().sum())
+}
+
+fn each_text(a: &Answer) -> impl Iterator<Item = Answer> + '_ {
+    damaged(&a.text).map(|text| Answer { text, ..a.clone() })
+}
+
+fn each_list(a: &Answer) -> impl Iterator<Item = Answer> + '_ {
+    damaged(&a.names).map(|names| Answer { names, ..a.clone() })
+}
+
+/// Every way to change one byte, to take one out and to put one in.
+fn damaged(bytes: &[u8]) -> impl Iterator<Item = Vec<u8>> + '_ {
+    let with = |from: usize, to: usize, byte: Option<u8>| {
+        let mut changed = bytes.to_vec();
+        changed.splice(from..to, byte);
+        changed
+    };
+    let changed =
+        (0..bytes.len()).flat_map(move |at| (0..=255).map(move |byte| with(at, at + 1, Some(byte))));
+    let taken = (0..bytes.len()).map(move |at| with(at, at + 1, None));
+    let put = (0..=bytes.len()).flat_map(move |at| (0..=255).map(move |byte| with(at, at, Some(byte))));
+    changed.chain(taken).chain(put)
 }
 
 /// Writes an answer's three files into a folder, as `walumpeh model` takes them.
