@@ -3,6 +3,7 @@
 mod growth;
 mod instructions;
 mod measure;
+mod models;
 mod moves;
 mod picks;
 mod plot;
@@ -33,6 +34,8 @@ enum Line {
         #[arg(long, value_name = "FILE")]
         svg: Option<PathBuf>,
     },
+    /// Reading another solver's model: 1,024 entries against 1,024 names, and as the text grows
+    Models(Rounds),
     /// Instructions of each family's runs, counted by valgrind
     Instructions,
     /// Moves to a model by the share of words e that ask for the inverse
@@ -80,6 +83,7 @@ fn measure(line: &Line) -> Result<(), String> {
         Line::Runs(Rounds { rounds }) => runs::table(*rounds),
         Line::Picks(Rounds { rounds }) => picks::table(*rounds),
         Line::Growth { rounds, svg } => growth::table(rounds.rounds, svg.as_deref())?,
+        Line::Models(Rounds { rounds }) => models::table(*rounds)?,
         Line::Instructions => instructions::table()?,
         Line::Share => share::table(),
         Line::Moves { tapes, budget } => moves::table(*tapes, *budget),
