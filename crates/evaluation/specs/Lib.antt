@@ -2,6 +2,7 @@
 pub mod Problem
 pub mod Values
 pub mod Lists
+pub mod Readers
 pub mod Height
 pub mod inner
 pub mod promises

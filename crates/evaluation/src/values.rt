@@ -26,7 +26,7 @@ fn width_of(bytes: &[u8], id: u16) -> u32
 
 // The value of node i: a variable's own place, a constant's lo, else what its operator gives. Each arm reads what its kind uses,
 // an operand's width too, so that no node pays for another's operands. Operand b of a concat is as wide as operand a leaves.
-fn value_at(bytes: &[u8], values: &[u64], i: u16) -> u64
+pub(crate) fn value_at(bytes: &[u8], values: &[u64], i: u16) -> u64
     requires { ⌜ Evaluable (now bytes) (now values) i ⌝ }
     ensures { λ r. ⌜ r ≡ valueOf (problem (now (bytes .entry))) (now (values .entry)) i ⌝ }
 {

@@ -1,0 +1,59 @@
+// The index of readers, built from the last node down: each link goes before those of higher ids, so that every chain ascends.
+ghost use mathlib.Core.Path.{_≡_};
+ghost use Prim.Native.Nat.{_+_, _*_, _<_};
+ghost use Rattle.evaluation.specs.Problem.{problem};
+ghost use Rattle.evaluation.specs.inner.Readers.{links as linksAt, operandAt, inFront, Linkable, Linking, Unindexed, Indexed};
+use crate::operands::operand;
+use operators::operand_count;
+use problem::Node;
+use problem::node_at;
+use problem::node_count;
+
+// Whether a node has a link at position j: its kind has the position, and no earlier one holds that operand, as "a reader is
+// listed once even if it reads a node at several positions".
+fn links(n: Node, j: u32) -> bool
+    ensures { λ r. ⌜ r ≡ linksAt n j ⌝ }
+{
+    let there = j < operand_count(n.kind) as u32;
+    match j {
+        0 => there,
+        1 => there & (n.b != n.a),
+        _ => there & ((n.c != n.a) & (n.c != n.b)),
+    }
+}
+
+// Node i, which is n, put in front of the readers of its operand at position j.
+fn link(slots: &mut [u16], n: Node, i: u16, j: u16)
+    requires { ⌜ Linkable (now slots) n i j ⌝ }
+    ensures { λ r. ⌜ now (slots .exit) ≡ inFront (linksAt n j) (operandAt n j) (4 * i + 1 + j) (now (slots .entry)) ⌝ }
+{
+    if links(n, j as u32) {
+        let begin = 4 * (operand(n, j as u32) as usize);
+        let own = 4 * i + 1 + j;
+        slots[own as usize] = slots[begin];
+        slots[begin] = own;
+    }
+}
+
+// Node i put in front of the readers of each of its operands.
+fn link_node(bytes: &[u8], slots: &mut [u16], i: u16)
+    requires { ⌜ Linking (now bytes) (i + 1) (now slots) × (i < problem (now bytes) .nodes) ⌝ }
+    ensures { λ r. ⌜ Linking (now (bytes .entry)) i (now (slots .exit)) ⌝ }
+{
+    let n = node_at(bytes, i);
+    link(slots, n, i, 2);
+    link(slots, n, i, 1);
+    link(slots, n, i, 0);
+}
+
+// The index of a problem.
+pub fn index_readers(bytes: &[u8], slots: &mut [u16])
+    requires { ⌜ Unindexed (now bytes) (now slots) ⌝ }
+    ensures { λ r. ⌜ Indexed (now (bytes .entry)) (now (slots .exit)) ⌝ }
+{
+    let mut i = node_count(bytes);
+    while 0 < i {
+        i -= 1;
+        link_node(bytes, slots, i);
+    }
+}
