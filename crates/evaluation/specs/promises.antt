@@ -1,3 +1,4 @@
 -- What is promised, as theorems over all that the contracts allow.
 pub mod Agree
 pub mod Determined
+pub mod Enough

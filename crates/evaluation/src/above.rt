@@ -8,6 +8,7 @@ ghost use Rattle.evaluation.specs.Problem.{problem};
 ghost use Rattle.evaluation.specs.inner.Evaluation.{OperandsBelow, Evaluable};
 ghost use Rattle.evaluation.specs.inner.Readers.{Tells, ReadsMarked, Passed, Due, Changed, Renewal};
 use crate::values::value_at;
+use operators::operand_count;
 use problem::Node;
 use problem::node_at;
 use problem::node_count;
@@ -25,11 +26,11 @@ fn reads_marked(marks: &[u8], n: Node) -> bool
     requires { ⌜ OperandsBelow n (length (now marks)) ⌝ }
     ensures { λ r. ⌜ Tells r (ReadsMarked (now (marks .entry)) n) ⌝ }
 {
-    match n.kind {
-        2 | 13 | 16 => marked(marks, n.a),
-        11 => marked(marks, n.a) | marked(marks, n.b) | marked(marks, n.c),
-        3..=10 | 12 | 14..=15 | 17 => marked(marks, n.a) | marked(marks, n.b),
-        0..=1 | 18..=255 => false,
+    match operand_count(n.kind) {
+        0 => false,
+        1 => marked(marks, n.a),
+        2 => marked(marks, n.a) | marked(marks, n.b),
+        _ => marked(marks, n.a) | marked(marks, n.b) | marked(marks, n.c),
     }
 }
 

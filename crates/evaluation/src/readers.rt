@@ -1,6 +1,7 @@
 // The index of readers, built from the last node down: each link goes before those of higher ids, so that every chain ascends.
 ghost use mathlib.Core.Path.{_≡_};
 ghost use Prim.Native.Nat.{_+_, _*_, _<_};
+ghost use lib.ListN.{length};
 ghost use Rattle.evaluation.specs.Problem.{problem};
 ghost use Rattle.evaluation.specs.inner.Readers.{links as linksAt, operandAt, inFront, Linkable, Linking, Unindexed, Indexed};
 use crate::operands::operand;
@@ -38,7 +39,7 @@ fn link(slots: &mut [u16], n: Node, i: u16, j: u16)
 // Node i put in front of the readers of each of its operands.
 fn link_node(bytes: &[u8], slots: &mut [u16], i: u16)
     requires { ⌜ Linking (now bytes) (i + 1) (now slots) × (i < problem (now bytes) .nodes) ⌝ }
-    ensures { λ r. ⌜ Linking (now (bytes .entry)) i (now (slots .exit)) ⌝ }
+    ensures { λ r. ⌜ Linking (now (bytes .entry)) i (now (slots .exit)) × (length (now (slots .exit)) ≡ length (now (slots .entry))) ⌝ }
 {
     let n = node_at(bytes, i);
     link(slots, n, i, 2);

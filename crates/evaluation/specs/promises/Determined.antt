@@ -1,12 +1,17 @@
 -- The contract of each public function determines its result and every lent place: any two that it allows are equal.
-use mathlib.Core.Path.{_≡_, sym, ap, _∙_}
+use mathlib.Core.Path.{_≡_, refl, sym, ap, _∙_}
 use mathlib.Core.List.{List}
-use Prim.Native.Nat.{ℕ}
+use Prim.Native.Nat.{ℕ, _*_, _<_}
+use lib.ListN.{getD}
 use Rattle.problem.specs.declared.layout.Node.{Node}
 use Rattle.picking.specs.declared.spot.Spot.{Spot}
 use Rattle.picking.specs.Spot.{at}
 use Rattle.evaluation.specs.Problem.{problem, Pairs, evaluate}
+use Rattle.evaluation.specs.Readers.{Chain, Above}
 use Rattle.evaluation.specs.inner.Evaluation.{ids, Filled, spotIn}
+use Rattle.evaluation.specs.inner.Readers.{Indexed, Renewal}
+use Rattle.evaluation.specs.laws.Chains.{chain-unique}
+use Rattle.evaluation.specs.laws.Lists.{lists-unique, count-unique}
 
 -- where the contract is an equation
 equal : {A : Type 0} {v r s : A} → r ≡ v → s ≡ v → r ≡ s
@@ -30,3 +35,22 @@ spot-of-determined s los his vs n r t = equal
 
 pub operand-determined : (n : Node) (i r t : ℕ) → r ≡ at (ids n) i → t ≡ at (ids n) i → r ≡ t
 operand-determined n i r t = equal
+
+-- the nodes of every chain are determined; by which of its positions a reader is linked, and what a slot in no chain holds, is not
+-- (docs/CONTRACTS.md)
+pub index-readers-determined :
+    (s slots slots′ : List ℕ)
+    → Indexed s slots
+    → Indexed s slots′
+    → (m : ℕ) (l l′ : List ℕ)
+    → m < problem s .nodes
+    → Chain slots (getD slots (4 * m) 0) l
+    → Chain slots′ (getD slots′ (4 * m) 0) l′
+    → l ≡ l′
+index-readers-determined s slots slots′ i i′ m l l′ h c c′ =
+    chain-unique c (i .index .chain m h) ∙ lists-unique (i .index .each m h) (i′ .index .each m h) ∙ chain-unique (i′ .index .chain m h) c′
+
+pub evaluate-above-determined :
+    (s vs : List ℕ) (v : ℕ) (us us′ : List ℕ) (r r′ : ℕ) → Renewal s vs v us r → Renewal s vs v us′ r′ → (us ≡ us′) × (r ≡ r′)
+evaluate-above-determined s vs v us us′ r r′ t t′ =
+    (equal (t .values) (t′ .values), count-unique (Above (problem s) v) refl (t .count) (t′ .count))

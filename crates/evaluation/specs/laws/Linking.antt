@@ -1,0 +1,163 @@
+-- What the functions of the index take from the definitions: position by position, a link put in front of its chain.
+use mathlib.Core.Path.{_≡_, refl, sym, ap, _∙_}
+use mathlib.Core.Bool.{Bool, true, not, _&&_, and-true}
+use mathlib.Core.List.{List, []}
+use Prim.Native.Nat.{ℕ, zero, suc, _+_, _*_, _≤_, _<_}
+use native.Mathlib.Omega.{arith}
+use native.Mathlib.Numerals.{add-one}
+use lib.Dec.{ltb, eqb}
+use lib.ListN.{length, getD, replicate}
+use Rattle.problem.specs.declared.layout.Node.{Node}
+use Rattle.problem.specs.declared.Checked.the-variants.{Accepted}
+use Rattle.problem.specs.Layout.{nodeAt}
+use Rattle.problem.specs.Refusals.{checked}
+use Rattle.evaluation.specs.Lists.{Lists.done}
+use Rattle.evaluation.specs.Problem.{problem}
+use Rattle.evaluation.specs.Readers.{Reads}
+use Rattle.evaluation.specs.inner.Evaluation.{operandCount}
+use Rattle.evaluation.specs.inner.Lists.{ListsFrom, ListsFrom.none}
+use Rattle.evaluation.specs.inner.Readers.{linked, links, operandAt, inFront, ChainFrom, ChainFrom.ends, Linkable, Linking, Unindexed, Indexed}
+use Rattle.evaluation.specs.laws.Good.{good-of}
+use Rattle.evaluation.specs.laws.Lists.{lists-from}
+use Rattle.evaluation.specs.laws.Links.{grown, linked-there, one-hit}
+use Rattle.evaluation.specs.laws.Chains.{chain-of, chain-wider, front-chain, length-front}
+
+-- what the test of a position computes
+module _ (n : Node) (k : ℕ) (q : k ≡ operandCount n) where
+  pub link-first : (j : ℕ) → j ≡ 0 → ltb j k ≡ links n j
+  unfolding linked
+  link-first j e = rw (e, q) (sym (and-true (ltb 0 (operandCount n))))
+
+  pub link-second : (j : ℕ) → j ≡ 1 → (ltb j k && not (eqb (n .b) (n .a))) ≡ links n j
+  unfolding linked
+  link-second j e = rw (e, q)
+
+  pub link-third : (j : ℕ) → (j ≡ 0 → ⊥) → (j ≡ 1 → ⊥) → (ltb j k && (not (eqb (n .c) (n .a)) && not (eqb (n .c) (n .b)))) ≡ links n j
+  unfolding linked
+  link-third zero x y = absurd (x refl)
+  link-third (suc zero) x y = absurd (y refl)
+  link-third (suc (suc j)) x y = rw q
+
+-- ---- position j of node i of an accepted problem
+
+-- every node's chain, with links from slot q on
+abbrev Chained : List ℕ → ℕ → List ℕ → (ℕ → List ℕ) → Type 0
+Chained s q slots readers = (m : ℕ) → m < problem s .nodes → ChainFrom q slots (getD slots (4 * m) 0) (readers m)
+
+-- the same with room for all
+record Stage (s : List ℕ) (q : ℕ) (slots : List ℕ) (readers : ℕ → List ℕ) : Type 0 where
+  room : 4 * problem s .nodes ≤ length slots
+  chain : Chained s q slots readers
+
+module _ (s : List ℕ) (a : checked s ≡ Accepted) (i : ℕ) (l : i < problem s .nodes) (d : Node) (e : d ≡ nodeAt s i) (j : ℕ) (h : j < 3) where
+  operand-inside : links d j ≡ true → operandAt d j < problem s .nodes
+  unfolding problem
+  operand-inside p =
+      let there : j < operandCount (nodeAt s i) = rw e at (linked-there _ _ j p) in
+      let below : operandAt (nodeAt s i) j < i = good-of s a .node i l .below j there in
+      rw e (omega arith)
+
+  module _ {q : ℕ} {slots : List ℕ} {readers : ℕ → List ℕ} (g : Stage s q slots readers) where
+    linkable : Linkable slots d i j
+    linkable =
+        record {
+          few = omega (arith, good-of s a .few);
+          position = h;
+          own = omega (arith, g .room);
+          begin = λ p. omega (arith, operand-inside p, g .room);
+        }
+
+    stage-next :
+        {next : List ℕ}
+        → 4 * i + 1 + j < q
+        → next ≡ inFront (links d j) (operandAt d j) (4 * i + 1 + j) slots
+        → Stage s (4 * i + 1 + j) next (λ m. grown (links d j && eqb (operandAt d j) m) i (readers m))
+    stage-next before n =
+        record {
+          room = omega (arith, g .room, ap length n ∙ length-front (links d j) (operandAt d j) (4 * i + 1 + j) slots);
+          chain = λ m b. rw n (front-chain i j (4 * i + 1 + j) (operandAt d j) slots refl h (links d j) m before (omega (arith, g .room)) (linkable .begin) (g .chain m b));
+        }
+
+-- ---- the three positions of node i
+
+module _ {s : List ℕ} {i : ℕ} {d : Node} (l : i < problem s .nodes) (e : d ≡ nodeAt s i) {x : List ℕ} (w : Linking s (i + 1) x) where
+  abbrev ok : checked s ≡ Accepted
+  ok = w .accepted
+
+  from-next : Stage s (4 * (i + 1)) x (w .readers)
+  from-next = record { room = w .room; chain = w .chain }
+
+  pub linkable-2 : Linkable x d i 2
+  linkable-2 = linkable s ok i l d e 2 (omega arith) from-next
+
+  module _ {y : List ℕ} (p : y ≡ inFront (links d 2) (operandAt d 2) (4 * i + 1 + 2) x) where
+    from-2 : Stage s (4 * i + 1 + 2) y (λ m. grown (links d 2 && eqb (operandAt d 2) m) i (w .readers m))
+    from-2 = stage-next s ok i l d e 2 (omega arith) from-next (omega arith) p
+
+    pub linkable-1 : Linkable y d i 1
+    linkable-1 = linkable s ok i l d e 1 (omega arith) from-2
+
+    module _ {z : List ℕ} (q : z ≡ inFront (links d 1) (operandAt d 1) (4 * i + 1 + 1) y) where
+      from-1 :
+          Stage s (4 * i + 1 + 1) z
+          (λ m. grown (links d 1 && eqb (operandAt d 1) m) i (grown (links d 2 && eqb (operandAt d 2) m) i (w .readers m)))
+      from-1 = stage-next s ok i l d e 1 (omega arith) from-2 (omega arith) q
+
+      pub linkable-0 : Linkable z d i 0
+      linkable-0 = linkable s ok i l d e 0 (omega arith) from-1
+
+      module _ {u : List ℕ} (r : u ≡ inFront (links d 0) (operandAt d 0) (4 * i + 1 + 0) z) where
+        pub linked-long : length u ≡ length x
+        linked-long =
+            ap length r
+            ∙ length-front (links d 0) _ _ z
+            ∙ ap length q
+            ∙ length-front (links d 1) _ _ y
+            ∙ ap length p
+            ∙ length-front (links d 2) _ _ x
+
+        pub linked-node : Linking s i u
+        unfolding problem
+        linked-node =
+            let g = stage-next s ok i l d e 0 (omega arith) from-1 (omega arith) r in
+            record {
+              accepted = ok;
+              room = g .room;
+              readers = λ m.
+                  grown (links d 0 && eqb (operandAt d 0) m) i
+                  (grown (links d 1 && eqb (operandAt d 1) m) i (grown (links d 2 && eqb (operandAt d 2) m) i (w .readers m)));
+              chain = λ m b. chain-wider (omega arith) (g .chain m b);
+              each = λ m b. rw e (one-hit (problem s) m i (rw (add-one i) at (w .each m b)));
+            }
+
+-- ---- all nodes
+
+pub linking-none : {s slots : List ℕ} {n : ℕ} → Unindexed s slots → n ≡ problem s .nodes → Linking s n slots
+linking-none {s} {slots} {n} u e =
+    record {
+      accepted = u .accepted;
+      room = u .room;
+      readers = λ m. [];
+      chain = λ m b. ends (u .none (4 * m));
+      each = λ m b. rw e none;
+    }
+
+pub linking-all : {s slots : List ℕ} → Linking s 0 slots → Indexed s slots
+linking-all {s} w =
+    record {
+      room = w .room;
+      index = record {
+        readers = w .readers;
+        chain = λ m b. chain-of (w .chain m b);
+        each = λ m b. lists-from [] done (w .each m b);
+      };
+    }
+
+pub linking-few : {s slots : List ℕ} {i : ℕ} → Linking s i slots → problem s .nodes ≤ 1024
+linking-few {s} w = good-of s (w .accepted) .few
+
+-- an array of zeros is what an index is made in
+pub zeros-at : (n k : ℕ) → _≡_ {A = ℕ} (getD (replicate n 0) k 0) 0
+zeros-at zero k = refl
+zeros-at (suc n) zero = refl
+zeros-at (suc n) (suc k) = zeros-at n k

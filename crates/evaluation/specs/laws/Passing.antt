@@ -1,0 +1,314 @@
+-- What the pass over the nodes takes from the definitions.
+use mathlib.Core.Path.{_≡_, refl, sym, ap, _∙_, subst}
+use mathlib.Core.Bool.{Bool, true, false, not, _||_, true≢false}
+use mathlib.Core.List.{List}
+use Prim.Native.Nat.{ℕ, zero, suc, _+_, _*_, _/_, _≤_, _<_}
+use native.Mathlib.Omega.{arith}
+use native.Mathlib.Nat.{le-refl, not-suc-le-zero, lt-suc-self}
+use native.Mathlib.Numerals.{add-one}
+use native.Mathlib.Decide.{ℕ-discrete}
+use lib.Dec.{ltb}
+use borrow.Author.Tests.{ltb-true, ltb-false, not-true, not-false}
+use lib.ListN.{length, getD, set, replicate, length-set, length-replicate}
+use lib.Seq.{getD-set-same, getD-set-other}
+use Rattle.problem.specs.declared.layout.Node.{Node}
+use Rattle.problem.specs.Layout.{nodeAt}
+use Rattle.evaluation.specs.Problem.{Prob, problem, valueOf, evaluate}
+use Rattle.picking.specs.laws.Positions.{few-positions}
+use Rattle.evaluation.specs.Lists.{Lists}
+use Rattle.evaluation.specs.Readers.{Chain, Reads, Above, itself, onward}
+use Rattle.evaluation.specs.inner.Good.{Good}
+use Rattle.evaluation.specs.inner.Evaluation.{operandCount, OperandsBelow, Evaluable}
+use Rattle.evaluation.specs.inner.Lists.{Count}
+use Rattle.evaluation.specs.inner.Readers.{operandAt, Tells, Marked, ReadsMarked, Passed, Passed.renewed, Passed.left, Due, Changed, Renewal}
+use Rattle.evaluation.specs.laws.Decide.{Some, lists-find, lists-length, lists-member}
+use Rattle.evaluation.specs.laws.Good.{good-of}
+use Rattle.evaluation.specs.laws.Values.{evalUp-lt, evaluate-variable}
+use Rattle.evaluation.specs.laws.Lists.{count-none, count-keep, count-skip, lists-least}
+use Rattle.evaluation.specs.laws.Linking.{zeros-at}
+use Rattle.evaluation.specs.laws.Chains.{chain-none, chain-first}
+use Rattle.evaluation.specs.laws.Above.{Renewed, renewed-none, renewed-all, renewed-skip, renewed-keep, above-from, reads-below}
+
+-- ---- whether a node reads a marked one, by how many operands it has
+
+-- one of the tests below n holds
+unfoldable pub anyBelow : (ℕ → Bool) → ℕ → Bool
+anyBelow f zero = false
+anyBelow f (suc n) = anyBelow f n || f n
+
+some-step : (f : ℕ → Bool) (n : ℕ) (b : Bool) → (b ≡ true → Some (λ i. f i ≡ true) n) → (b || f n) ≡ true → Some (λ i. f i ≡ true) (suc n)
+some-step f n true h q = let s = h refl in record { at = s .at; at-lt = omega (arith, s .at-lt); holds = s .holds }
+some-step f n false h q = record { at = n; at-lt = lt-suc-self n; holds = q }
+
+some-of : (f : ℕ → Bool) (n : ℕ) → anyBelow f n ≡ true → Some (λ i. f i ≡ true) n
+unfolding anyBelow
+some-of f zero e = absurd (true≢false (sym e))
+some-of f (suc n) e = some-step f n (anyBelow f n) (some-of f n) e
+
+or-false : (x y : Bool) → (x || y) ≡ false → (x ≡ false) × (y ≡ false)
+or-false true y e = absurd (true≢false e)
+or-false false y e = (refl, e)
+
+none-of : (f : ℕ → Bool) (n : ℕ) → anyBelow f n ≡ false → (i : ℕ) → i < n → f i ≡ false
+unfolding anyBelow
+none-of f zero e i h = absurd (not-suc-le-zero h)
+none-of f (suc n) e i h =
+    let p = or-false (anyBelow f n) (f n) e in
+    elim (ℕ-discrete i n) [ yes q ↦ ap f q ∙ p .1 | no x ↦ none-of f n (p .0) i (omega arith) ]
+
+module _ (marks : List ℕ) (n : Node) where
+  abbrev markedAt : ℕ → Bool
+  markedAt i = ltb 0 (getD marks (operandAt n i) 0)
+
+  reads-any : (c : ℕ) → c ≡ operandCount n → Tells (anyBelow markedAt c) (ReadsMarked marks n)
+  reads-any c q =
+      record {
+        yes = λ e. let s = some-of markedAt c e in record { position = s .at; there = rw (← q) (s .at-lt); is = ltb-true 0 (getD marks (operandAt n (s .at)) 0) (s .holds) };
+        no = λ e r. omega (arith, r .is, ltb-false 0 (getD marks (operandAt n (r .position)) 0) (none-of markedAt c e (r .position) (rw (← q) at (r .there))));
+      }
+
+  pub reads-none : 0 ≡ operandCount n → Tells false (ReadsMarked marks n)
+  unfolding anyBelow
+  reads-none q = reads-any 0 q
+
+  pub reads-one : 1 ≡ operandCount n → Tells (ltb 0 (getD marks (n .a) 0)) (ReadsMarked marks n)
+  unfolding anyBelow
+  reads-one q = reads-any 1 q
+
+  pub reads-two : 2 ≡ operandCount n → Tells (ltb 0 (getD marks (n .a) 0) || ltb 0 (getD marks (n .b) 0)) (ReadsMarked marks n)
+  unfolding anyBelow
+  reads-two q = reads-any 2 q
+
+  -- a kind has at most three operands
+  pub reads-three :
+      (c : ℕ)
+      → c ≡ operandCount n
+      → (c ≡ 0 → ⊥)
+      → (c ≡ 1 → ⊥)
+      → (c ≡ 2 → ⊥)
+      → Tells (ltb 0 (getD marks (n .a) 0) || ltb 0 (getD marks (n .b) 0) || ltb 0 (getD marks (n .c) 0)) (ReadsMarked marks n)
+  unfolding anyBelow
+  reads-three c q x y z = reads-any 3 (omega (arith, few-positions (n .kind)))
+
+-- ---- one node
+
+-- its operands have marks
+pub operands-marked :
+    {s vs : List ℕ} {i : ℕ} {d : Node} (marks : List ℕ)
+    → Evaluable s vs i
+    → d ≡ nodeAt s i
+    → problem s .nodes ≤ length marks
+    → OperandsBelow d (length marks)
+unfolding problem
+operands-marked {s} {i = i} marks v e l j h = rw e (omega (arith, good-of s (v .accepted) .node i (v .inside) .below j (rw e at h), v .inside))
+
+module _ {s vs marks : List ℕ} {i : ℕ} {d : Node} {r : Bool} (t : Tells r (ReadsMarked marks d)) (e : d ≡ nodeAt s i) where
+  pub passed-over : not r ≡ true → Passed s i vs marks vs marks 0
+  passed-over q = left (λ m. t .no (not-true r q) (rw e m)) refl refl refl
+
+  pub passed-on : {x : ℕ} → not r ≡ false → x ≡ valueOf (problem s) vs i → Passed s i vs marks (set vs i x) (set marks i 1) 1
+  passed-on q z = renewed (rw e at (t .yes (not-false r q))) (ap (set vs i) z) refl refl
+
+pub passed-few : {s vs marks us next : List ℕ} {i r : ℕ} → Passed s i vs marks us next r → r ≤ 1
+passed-few (renewed m p q e) = omega arith
+passed-few (left x p q e) = omega arith
+
+pub passed-long : {s vs marks us next : List ℕ} {i r : ℕ} → Passed s i vs marks us next r → length next ≡ length marks
+passed-long {marks = marks} {i = i} (renewed m p q e) = ap length q ∙ length-set marks i 1
+passed-long (left x p q e) = ap length q
+
+-- ---- the pass
+
+-- where it is: the nodes below i are evaluated, c of them are above v, and those are marked
+pub record Passing (s vs : List ℕ) (v i : ℕ) (ws marks : List ℕ) (c : ℕ) : Type 0 where
+  pub after : v < i
+  pub inside : i ≤ problem s .nodes
+  pub room : problem s .nodes ≤ length marks
+  pub renewed : Renewed (problem s) vs i ws
+  pub counted : Count (Above (problem s) v) i c
+  pub of : (m : ℕ) → Marked marks m → (m < i) × Above (problem s) v m
+  pub to : (m : ℕ) → m < i → Above (problem s) v m → Marked marks m
+
+module _ {s slots vs : List ℕ} {v : ℕ} (C : Changed s slots vs v) where
+  abbrev P : Prob
+  P = problem s
+
+  good : Good (problem s)
+  good = good-of s (C .assigned .accepted)
+
+  pub changed-few : problem s .nodes ≤ 1024
+  changed-few = good .few
+
+  room : problem s .nodes ≤ length (C .before)
+  room = omega (arith, C .assigned .places, ap length (C .is) ∙ length-set (C .before) v (C .value))
+
+  -- no node from f up to n is above v
+  passed :
+      {f c : ℕ} {ws : List ℕ} (n : ℕ)
+      → f ≤ n
+      → n ≤ problem s .nodes
+      → ((k : ℕ) → f ≤ k → k < n → Above (problem s) v k → ⊥)
+      → Renewed (problem s) vs f ws
+      → Count (Above (problem s) v) f c
+      → Renewed (problem s) vs n ws × Count (Above (problem s) v) n c
+  passed {f} zero h l x r q = let e : f ≡ 0 = omega arith in (rw e at r, rw e at q)
+  passed {f} {c} {ws} (suc n) h l x r q =
+      elim (ℕ-discrete f (suc n)) [
+        | yes e ↦ (rw e at r, rw e at q)
+        | no y ↦
+            let w = passed n (omega arith) (omega arith) (λ k a b. x k a (omega arith)) r q in
+            let z = x n (omega arith) (omega arith) in (
+              rw (← add-one n, C .is) (renewed-skip P good (C .before) room (C .evaluated) v (C .value) (C .variable) (rw (C .is) at (w .0)) l z),
+              rw (← add-one n) (count-skip (Above P v) (w .1) z),
+            )
+      ]
+
+  -- v has its value
+  after-v : Renewed (problem s) vs (v + 1) vs × Count (Above (problem s) v) (v + 1) 1
+  after-v =
+      let p = passed v (omega arith) (omega (arith, C .inside)) (λ k h l up. omega (arith, above-from P good up)) (renewed-none P vs) (count-none (Above P v)) in
+      let own = sym (evaluate-variable P vs v (omega (arith, C .inside, C .assigned .places)) (C .variable)) in (
+        record {
+          long = refl;
+          done = λ n h. elim (ℕ-discrete n v) [ yes e ↦ rw e own | no y ↦ p .0 .done n (omega arith) ];
+          left = λ n h. refl;
+        },
+        count-keep (Above P v) (p .1) itself,
+      )
+
+  -- no node below f reads v
+  module _ {f : ℕ} (least : (n : ℕ) → n < f → Reads (problem s) v n → ⊥) where
+    only-itself : {n : ℕ} → Above (problem s) v n → n < f → n ≡ v
+    only-itself itself h = refl
+    only-itself (onward {m} {n} a l r) h =
+        absurd (least n h (subst (λ (k : ℕ). Reads (problem s) k n) (only-itself a (omega (arith, reads-below P good l r))) r))
+
+    up-to : v < f → f ≤ problem s .nodes → Renewed (problem s) vs f vs × Count (Above (problem s) v) f 1
+    up-to h l =
+        passed f (omega arith) l (λ k a b up. omega (arith, only-itself up b)) (after-v .0) (after-v .1)
+
+  -- ---- from the index
+
+  listed : Lists (Reads (problem s) v) (problem s .nodes) (C .indexed .index .readers v)
+  listed = C .indexed .index .each v (C .inside)
+
+  chained : Chain slots (getD slots (4 * v) 0) (C .indexed .index .readers v)
+  chained = C .indexed .index .chain v (C .inside)
+
+  -- nobody reads v
+  pub alone : getD slots (4 * v) 0 ≡ 0 → Renewal s vs v vs 1
+  alone e =
+      let w = up-to (λ n h r. omega (arith, chain-none chained e, lists-find n listed h r .place-lt)) (C .inside) (le-refl (P .nodes)) in
+      record { values = renewed-all P vs (le-refl (P .nodes)) (w .0); count = w .1 }
+
+  -- the chain begins with the first that does
+  due :
+      {marks : List ℕ}
+      → (getD slots (4 * v) 0 ≡ 0 → ⊥)
+      → problem s .nodes ≤ length marks
+      → ((k : ℕ) → getD marks k 0 ≡ 0)
+      → Due s vs marks v (getD slots (4 * v) 0 / 4)
+  due x long clear =
+      let first = chain-first chained x in
+      let m = lists-member listed 0 (first .0) in
+      record {
+        slots = slots;
+        changed = C;
+        room = long;
+        none = clear;
+        inside = omega (arith, m .below, first .1);
+        reads = rw (first .1) (m .holds);
+        least = λ n h r. omega (arith, first .1, m .below, lists-least listed n (omega (arith, first .1, m .below)) r);
+      }
+
+  -- in an array of zeros
+  pub due-in : (size : ℕ) → (getD slots (4 * v) 0 ≡ 0 → ⊥) → problem s .nodes ≤ size → Due s vs (replicate size 0) v (getD slots (4 * v) 0 / 4)
+  due-in size x l = due x (omega (arith, length-replicate {A = ℕ} size 0)) (zeros-at size)
+
+  module _ {i c : ℕ} {ws marks : List ℕ} (o : Passing s vs v i ws marks c) where
+    pub pass-few : c ≤ 1024
+    pass-few = omega (arith, o .inside, good .few, sym (o .counted .is), lists-length (o .counted .lists))
+
+    pub pass-end : i ≡ problem s .nodes → Renewal s vs v ws c
+    pass-end e =
+        record { values = renewed-all P vs (omega arith) (o .renewed); count = subst (λ (n : ℕ). Count (Above (problem s) v) n c) e (o .counted) }
+
+    module _ (l : i < problem s .nodes) where
+      pub pass-evaluable : Evaluable s ws i
+      unfolding evaluate
+      pass-evaluable =
+          record {
+            accepted = C .assigned .accepted;
+            places = omega (arith, o .renewed .long, C .assigned .places);
+            inside = l;
+            narrow = λ k h.
+                rw (o .renewed .done k h)
+                (evalUp-lt P good vs (C .assigned .places) (C .assigned .agrees) (P .nodes) (le-refl (P .nodes)) k (omega arith));
+          }
+
+      reads-above : ReadsMarked marks (nodeAt s i) → Above (problem s) v i
+      unfolding problem
+      reads-above r = onward (o .of _ (r .is) .1) l (record { position = r .position; there = r .there; is = refl })
+
+      above-reads : {n : ℕ} → n ≡ i → Above (problem s) v n → ReadsMarked marks (nodeAt s i)
+      unfolding problem
+      above-reads e itself = absurd (omega (arith, o .after))
+      above-reads e (onward {m} {n} a h r) =
+          let q : Reads P m i = rw e at r in
+          record { position = q .position; there = q .there; is = rw (q .is) (o .to m (omega (arith, reads-below P good h r)) a) }
+
+      pub pass-more : {us next : List ℕ} {r : ℕ} → Passed s i ws marks us next r → Passing s vs v (i + 1) us next (c + r)
+      pass-more (renewed m p q e) =
+          rw (p, q, e)
+          (record {
+            after = omega (arith, o .after);
+            inside = omega arith;
+            room = omega (arith, o .room, length-set marks i 1);
+            renewed = rw (C .is) (renewed-keep P good (C .before) room (C .evaluated) v (C .value) (C .variable) (rw (C .is) at (o .renewed)) l refl);
+            counted = count-keep (Above P v) (o .counted) (reads-above m);
+            of = λ k h.
+                elim (ℕ-discrete k i) [
+                  | yes z ↦ (omega arith, rw z (reads-above m))
+                  | no x ↦ let w = o .of k (rw (getD-set-other marks i k 1 0 x) at h) in (omega (arith, w .0), w .1)
+                ];
+            to = λ k h a.
+                elim (ℕ-discrete k i) [
+                  | yes z ↦ rw (z, getD-set-same marks i 1 0 (omega (arith, o .room))) (omega arith)
+                  | no x ↦ rw (getD-set-other marks i k 1 0 x) (o .to k (omega arith) a)
+                ];
+          })
+      pass-more (left x p q e) =
+          rw (p, q, e)
+          (record {
+            after = omega (arith, o .after);
+            inside = omega arith;
+            room = o .room;
+            renewed = rw (C .is) (renewed-skip P good (C .before) room (C .evaluated) v (C .value) (C .variable) (rw (C .is) at (o .renewed)) l not-above);
+            counted = let z : c + 0 ≡ c = omega arith in rw z (count-skip (Above P v) (o .counted) not-above);
+            of = λ k h. let w = o .of k h in (omega (arith, w .0), w .1);
+            to = λ k h a. o .to k (elim (ℕ-discrete k i) [ yes z ↦ absurd (not-above (rw z at a)) | no y ↦ omega arith ]) a;
+          })
+        where
+          not-above : Above (problem s) v i → ⊥
+          not-above a = x (above-reads refl a)
+
+-- v is marked
+pub pass-start : {s vs marks : List ℕ} {v first : ℕ} → Due s vs marks v first → Passing s vs v first vs (set marks v 1) 1
+pass-start {s} {vs} {marks} {v} {first} D =
+    let P : Prob = problem s in
+    let C = D .changed in
+    let after : v < first = reads-below P (good C) (D .inside) (D .reads) in
+    let w = up-to C (D .least) after (omega (arith, D .inside)) in
+    record {
+      after = after;
+      inside = omega (arith, D .inside);
+      room = omega (arith, D .room, length-set marks v 1);
+      renewed = w .0;
+      counted = w .1;
+      of = λ k h.
+          elim (ℕ-discrete k v) [
+            | yes z ↦ (omega arith, rw z itself)
+            | no x ↦ absurd (omega (arith, D .none k, rw (getD-set-other marks v k 1 0 x) at h))
+          ];
+      to = λ k h a. rw (only-itself C (D .least) a h, getD-set-same marks v 1 0 (omega (arith, D .room, C .inside))) (omega arith);
+    }
