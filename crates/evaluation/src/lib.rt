@@ -3,13 +3,14 @@
 mod above;
 mod operands;
 mod pairs;
+mod pass;
 mod readers;
 mod spot;
 mod values;
 
+pub use above::evaluate;
 pub use above::evaluate_above;
 pub use operands::operand;
 pub use pairs::fill;
 pub use readers::index_readers;
 pub use spot::spot_of;
-pub use values::evaluate;

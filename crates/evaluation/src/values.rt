@@ -1,12 +1,11 @@
-// Evaluation: every node's place set to its value, in ascending id.
+// The value of one node, from what stands at its operands' places.
 ghost use mathlib.Core.Path.{_≡_};
 ghost use Prim.Native.Nat.{_<_};
 ghost use lib.ListN.{length, getD};
 ghost use Rattle.problem.specs.Layout.{widthAt};
-ghost use Rattle.evaluation.specs.Problem.{problem, valueOf, evaluate as evaluated};
-ghost use Rattle.evaluation.specs.inner.Evaluation.{Readable, Evaluable, Assigned};
+ghost use Rattle.evaluation.specs.Problem.{problem, valueOf};
+ghost use Rattle.evaluation.specs.inner.Evaluation.{Readable, Evaluable};
 use problem::node_at;
-use problem::node_count;
 
 // What a list has at an id.
 fn read(held: &[u64], id: u16) -> u64
@@ -61,19 +60,5 @@ pub(crate) fn value_at(bytes: &[u8], values: &[u64], i: u16) -> u64
         16 => operators::extend(read(values, n.a), width_of(bytes, n.a), w),
         17 => operators::quotient(read(values, n.a), read(values, n.b), w),
         18..=255 => 0,
-    }
-}
-
-// All nodes evaluated.
-pub fn evaluate(bytes: &[u8], values: &mut [u64])
-    requires { ⌜ Assigned (now bytes) (now values) ⌝ }
-    ensures { λ r. ⌜ now (values .exit) ≡ evaluated (problem (now (bytes .entry))) (now (values .entry)) ⌝ }
-{
-    let n = node_count(bytes);
-    let mut i: u16 = 0;
-    while i < n {
-        let v = value_at(bytes, values, i);
-        values[i as usize] = v;
-        i += 1;
     }
 }

@@ -1,6 +1,7 @@
 -- What the functions of the readers' index and of evaluation upward ask and answer, in terms of the definitions.
 use mathlib.Core.Path.{_≡_}
 use mathlib.Core.Bool.{Bool, true, false, not, _&&_}
+use mathlib.Core.Logic.{_⊎_}
 use mathlib.Core.List.{List, [], _∷_}
 use Prim.Native.Nat.{ℕ, zero, suc, _+_, _*_, _≤_, _<_}
 use lib.Dec.{ltb, eqb}
@@ -77,7 +78,7 @@ pub record Indexed (s slots : List ℕ) : Type 0 where
   pub room : 4 * problem s .nodes ≤ length slots
   pub index : Index (problem s) slots
 
--- ---- above.rt
+-- ---- pass.rt
 
 -- a test says whether something holds
 pub record Tells (r : Bool) (A : Type 0) : Type 0 where
@@ -93,17 +94,29 @@ pub record ReadsMarked (marks : List ℕ) (n : Node) : Type 0 where
   pub there : position < operandCount n
   pub is : Marked marks (operandAt n position)
 
+-- it is to be evaluated: all are, or those that do
+abbrev pub Wanted : Bool → List ℕ → Node → Type 0
+Wanted all marks n = (all ≡ true) ⊎ ReadsMarked marks n
+
 -- what becomes of values and marks at node i, and how many are evaluated
-pub data Passed (s : List ℕ) (i : ℕ) (vs marks : List ℕ) : List ℕ → List ℕ → ℕ → Type 0 where
+pub data Passed (s : List ℕ) (i : ℕ) (all : Bool) (vs marks : List ℕ) : List ℕ → List ℕ → ℕ → Type 0 where
   renewed :
       {us next : List ℕ} {r : ℕ}
-      → ReadsMarked marks (nodeAt s i)
+      → Wanted all marks (nodeAt s i)
       → us ≡ set vs i (valueOf (problem s) vs i)
       → next ≡ set marks i 1
       → r ≡ 1
-      → Passed s i vs marks us next r
+      → Passed s i all vs marks us next r
   left :
-      {us next : List ℕ} {r : ℕ} → (ReadsMarked marks (nodeAt s i) → ⊥) → us ≡ vs → next ≡ marks → r ≡ 0 → Passed s i vs marks us next r
+      {us next : List ℕ} {r : ℕ} → (Wanted all marks (nodeAt s i) → ⊥) → us ≡ vs → next ≡ marks → r ≡ 0 → Passed s i all vs marks us next r
+
+-- marks for all nodes, none set
+pub record Clear (s marks : List ℕ) : Type 0 where
+  pub some : 0 < length marks
+  pub room : problem s .nodes ≤ length marks
+  pub none : (k : ℕ) → getD marks k 0 ≡ 0
+
+-- ---- above.rt
 
 -- values vs in which variable v was set after they were evaluated
 pub record Changed (s slots vs : List ℕ) (v : ℕ) : Type 0 where
@@ -121,12 +134,19 @@ pub record Renewal (s vs : List ℕ) (v : ℕ) (us : List ℕ) (r : ℕ) : Type 
   pub values : us ≡ evaluate (problem s) vs
   pub count : Count (Above (problem s) v) (problem s .nodes) r
 
--- the same, with no marks yet, and node `first` the first that reads v
-pub record Due (s vs marks : List ℕ) (v first : ℕ) : Type 0 where
+-- the same, where `first` is the first node that reads v
+pub record Due (s vs : List ℕ) (v first : ℕ) : Type 0 where
   pub slots : List ℕ
   pub changed : Changed s slots vs v
-  pub room : problem s .nodes ≤ length marks
-  pub none : (k : ℕ) → getD marks k 0 ≡ 0
   pub inside : first < problem s .nodes
   pub reads : Reads (problem s) v first
   pub least : (n : ℕ) → n < first → Reads (problem s) v n → ⊥
+
+-- what a pass over all nodes asks, and one over those above v; and what each answers
+pub data Asked (s vs : List ℕ) (v first : ℕ) : Bool → Type 0 where
+  whole : Assigned s vs → v ≡ 0 → first ≡ 0 → Asked s vs v first true
+  part : Due s vs v first → Asked s vs v first false
+
+pub data Answered (s vs : List ℕ) (v : ℕ) : Bool → List ℕ → ℕ → Type 0 where
+  whole : {us : List ℕ} {r : ℕ} → us ≡ evaluate (problem s) vs → Answered s vs v true us r
+  part : {us : List ℕ} {r : ℕ} → Renewal s vs v us r → Answered s vs v false us r

@@ -153,10 +153,7 @@ linking-all {s} w =
       };
     }
 
-pub linking-few : {s slots : List ℕ} {i : ℕ} → Linking s i slots → problem s .nodes ≤ 1024
-linking-few {s} w = good-of s (w .accepted) .few
-
--- an array of zeros is what an index is made in
+-- an array of zeros is what an index is made in, and marks are
 pub zeros-at : (n k : ℕ) → _≡_ {A = ℕ} (getD (replicate n 0) k 0) 0
 zeros-at zero k = refl
 zeros-at (suc n) zero = refl

@@ -1,6 +1,7 @@
 -- What the pass over the nodes takes from the definitions.
 use mathlib.Core.Path.{_≡_, refl, sym, ap, _∙_, subst}
 use mathlib.Core.Bool.{Bool, true, false, not, _||_, true≢false}
+use mathlib.Core.Logic.{inl, inr}
 use mathlib.Core.List.{List}
 use Prim.Native.Nat.{ℕ, zero, suc, _+_, _*_, _/_, _≤_, _<_}
 use native.Mathlib.Omega.{arith}
@@ -13,19 +14,20 @@ use lib.ListN.{length, getD, set, replicate, length-set, length-replicate}
 use lib.Seq.{getD-set-same, getD-set-other}
 use Rattle.problem.specs.declared.layout.Node.{Node}
 use Rattle.problem.specs.Layout.{nodeAt}
-use Rattle.evaluation.specs.Problem.{Prob, problem, valueOf, evaluate}
+use Rattle.evaluation.specs.Problem.{Prob, problem, valueOf, evalUp, evaluate}
 use Rattle.picking.specs.laws.Positions.{few-positions}
 use Rattle.evaluation.specs.Lists.{Lists}
 use Rattle.evaluation.specs.Readers.{Chain, Reads, Above, itself, onward}
 use Rattle.evaluation.specs.inner.Good.{Good}
-use Rattle.evaluation.specs.inner.Evaluation.{operandCount, OperandsBelow, Evaluable}
+use Rattle.evaluation.specs.inner.Evaluation.{operandCount, OperandsBelow, Evaluable, Assigned}
 use Rattle.evaluation.specs.inner.Lists.{Count}
-use Rattle.evaluation.specs.inner.Readers.{operandAt, Tells, Marked, ReadsMarked, Passed, Passed.renewed, Passed.left, Due, Changed, Renewal}
+use Rattle.evaluation.specs.inner.Readers.{operandAt, Tells, Marked, ReadsMarked, Wanted, Passed, Passed.renewed, Passed.left, Clear, Due, Asked, Asked.whole, Asked.part, Answered, Answered.whole, Answered.part, Changed, Renewal}
 use Rattle.evaluation.specs.laws.Decide.{Some, lists-find, lists-length, lists-member}
 use Rattle.evaluation.specs.laws.Good.{good-of}
-use Rattle.evaluation.specs.laws.Values.{evalUp-lt, evaluate-variable}
+use Rattle.evaluation.specs.laws.Values.{length-evalUp, evalUp-none, evalUp-step, evalUp-lt, evaluate-variable}
 use Rattle.evaluation.specs.laws.Lists.{count-none, count-keep, count-skip, lists-least}
 use Rattle.evaluation.specs.laws.Linking.{zeros-at}
+use Rattle.evaluation.specs.laws.Readings.{evaluable, evaluated-all}
 use Rattle.evaluation.specs.laws.Chains.{chain-none, chain-first}
 use Rattle.evaluation.specs.laws.Above.{Renewed, renewed-none, renewed-all, renewed-skip, renewed-keep, above-from, reads-below}
 
@@ -102,22 +104,33 @@ pub operands-marked :
 unfolding problem
 operands-marked {s} {i = i} marks v e l j h = rw e (omega (arith, good-of s (v .accepted) .node i (v .inside) .below j (rw e at h), v .inside))
 
-module _ {s vs marks : List ℕ} {i : ℕ} {d : Node} {r : Bool} (t : Tells r (ReadsMarked marks d)) (e : d ≡ nodeAt s i) where
-  pub passed-over : not r ≡ true → Passed s i vs marks vs marks 0
+module _ {all : Bool} {marks : List ℕ} {d : Node} where
+  pub wanted-all : all ≡ true → Tells true (Wanted all marks d)
+  wanted-all q = record { yes = λ e. inl q; no = λ e w. true≢false e }
+
+  pub wanted-marked : {r : Bool} → all ≡ false → Tells r (ReadsMarked marks d) → Tells r (Wanted all marks d)
+  wanted-marked q t =
+      record {
+        yes = λ e. inr (t .yes e);
+        no = λ e w. elim w [ inl a ↦ true≢false (sym a ∙ q) | inr m ↦ t .no e m ];
+      }
+
+module _ {s vs marks : List ℕ} {i : ℕ} {all : Bool} {d : Node} {r : Bool} (t : Tells r (Wanted all marks d)) (e : d ≡ nodeAt s i) where
+  pub passed-over : not r ≡ true → Passed s i all vs marks vs marks 0
   passed-over q = left (λ m. t .no (not-true r q) (rw e m)) refl refl refl
 
-  pub passed-on : {x : ℕ} → not r ≡ false → x ≡ valueOf (problem s) vs i → Passed s i vs marks (set vs i x) (set marks i 1) 1
+  pub passed-on : {x : ℕ} → not r ≡ false → x ≡ valueOf (problem s) vs i → Passed s i all vs marks (set vs i x) (set marks i 1) 1
   passed-on q z = renewed (rw e at (t .yes (not-false r q))) (ap (set vs i) z) refl refl
 
-pub passed-few : {s vs marks us next : List ℕ} {i r : ℕ} → Passed s i vs marks us next r → r ≤ 1
+pub passed-few : {s vs marks us next : List ℕ} {i r : ℕ} {all : Bool} → Passed s i all vs marks us next r → r ≤ 1
 passed-few (renewed m p q e) = omega arith
 passed-few (left x p q e) = omega arith
 
-pub passed-long : {s vs marks us next : List ℕ} {i r : ℕ} → Passed s i vs marks us next r → length next ≡ length marks
+pub passed-long : {s vs marks us next : List ℕ} {i r : ℕ} {all : Bool} → Passed s i all vs marks us next r → length next ≡ length marks
 passed-long {marks = marks} {i = i} (renewed m p q e) = ap length q ∙ length-set marks i 1
 passed-long (left x p q e) = ap length q
 
--- ---- the pass
+-- ---- the pass over what is above v
 
 -- where it is: the nodes below i are evaluated, c of them are above v, and those are marked
 pub record Passing (s vs : List ℕ) (v i : ℕ) (ws marks : List ℕ) (c : ℕ) : Type 0 where
@@ -202,39 +215,28 @@ module _ {s slots vs : List ℕ} {v : ℕ} (C : Changed s slots vs v) where
       record { values = renewed-all P vs (le-refl (P .nodes)) (w .0); count = w .1 }
 
   -- the chain begins with the first that does
-  due :
-      {marks : List ℕ}
-      → (getD slots (4 * v) 0 ≡ 0 → ⊥)
-      → problem s .nodes ≤ length marks
-      → ((k : ℕ) → getD marks k 0 ≡ 0)
-      → Due s vs marks v (getD slots (4 * v) 0 / 4)
-  due x long clear =
+  pub due : (getD slots (4 * v) 0 ≡ 0 → ⊥) → Due s vs v (getD slots (4 * v) 0 / 4)
+  due x =
       let first = chain-first chained x in
       let m = lists-member listed 0 (first .0) in
       record {
         slots = slots;
         changed = C;
-        room = long;
-        none = clear;
         inside = omega (arith, m .below, first .1);
         reads = rw (first .1) (m .holds);
         least = λ n h r. omega (arith, first .1, m .below, lists-least listed n (omega (arith, first .1, m .below)) r);
       }
 
-  -- in an array of zeros
-  pub due-in : (size : ℕ) → (getD slots (4 * v) 0 ≡ 0 → ⊥) → problem s .nodes ≤ size → Due s vs (replicate size 0) v (getD slots (4 * v) 0 / 4)
-  due-in size x l = due x (omega (arith, length-replicate {A = ℕ} size 0)) (zeros-at size)
-
   module _ {i c : ℕ} {ws marks : List ℕ} (o : Passing s vs v i ws marks c) where
-    pub pass-few : c ≤ 1024
+    pass-few : c ≤ 1024
     pass-few = omega (arith, o .inside, good .few, sym (o .counted .is), lists-length (o .counted .lists))
 
-    pub pass-end : i ≡ problem s .nodes → Renewal s vs v ws c
+    pass-end : i ≡ problem s .nodes → Renewal s vs v ws c
     pass-end e =
         record { values = renewed-all P vs (omega arith) (o .renewed); count = subst (λ (n : ℕ). Count (Above (problem s) v) n c) e (o .counted) }
 
     module _ (l : i < problem s .nodes) where
-      pub pass-evaluable : Evaluable s ws i
+      pass-evaluable : Evaluable s ws i
       unfolding evaluate
       pass-evaluable =
           record {
@@ -246,9 +248,10 @@ module _ {s slots vs : List ℕ} {v : ℕ} (C : Changed s slots vs v) where
                 (evalUp-lt P good vs (C .assigned .places) (C .assigned .agrees) (P .nodes) (le-refl (P .nodes)) k (omega arith));
           }
 
-      reads-above : ReadsMarked marks (nodeAt s i) → Above (problem s) v i
+      reads-above : Wanted false marks (nodeAt s i) → Above (problem s) v i
       unfolding problem
-      reads-above r = onward (o .of _ (r .is) .1) l (record { position = r .position; there = r .there; is = refl })
+      reads-above (inl e) = absurd (true≢false (sym e))
+      reads-above (inr r) = onward (o .of _ (r .is) .1) l (record { position = r .position; there = r .there; is = refl })
 
       above-reads : {n : ℕ} → n ≡ i → Above (problem s) v n → ReadsMarked marks (nodeAt s i)
       unfolding problem
@@ -257,7 +260,7 @@ module _ {s slots vs : List ℕ} {v : ℕ} (C : Changed s slots vs v) where
           let q : Reads P m i = rw e at r in
           record { position = q .position; there = q .there; is = rw (q .is) (o .to m (omega (arith, reads-below P good h r)) a) }
 
-      pub pass-more : {us next : List ℕ} {r : ℕ} → Passed s i ws marks us next r → Passing s vs v (i + 1) us next (c + r)
+      pass-more : {us next : List ℕ} {r : ℕ} → Passed s i false ws marks us next r → Passing s vs v (i + 1) us next (c + r)
       pass-more (renewed m p q e) =
           rw (p, q, e)
           (record {
@@ -290,11 +293,11 @@ module _ {s slots vs : List ℕ} {v : ℕ} (C : Changed s slots vs v) where
           })
         where
           not-above : Above (problem s) v i → ⊥
-          not-above a = x (above-reads refl a)
+          not-above a = x (inr (above-reads refl a))
 
 -- v is marked
-pub pass-start : {s vs marks : List ℕ} {v first : ℕ} → Due s vs marks v first → Passing s vs v first vs (set marks v 1) 1
-pass-start {s} {vs} {marks} {v} {first} D =
+pass-start : {s vs marks : List ℕ} {v first : ℕ} → Due s vs v first → Clear s marks → Passing s vs v first vs (set marks v 1) 1
+pass-start {s} {vs} {marks} {v} {first} D clear =
     let P : Prob = problem s in
     let C = D .changed in
     let after : v < first = reads-below P (good C) (D .inside) (D .reads) in
@@ -302,13 +305,99 @@ pass-start {s} {vs} {marks} {v} {first} D =
     record {
       after = after;
       inside = omega (arith, D .inside);
-      room = omega (arith, D .room, length-set marks v 1);
+      room = omega (arith, clear .room, length-set marks v 1);
       renewed = w .0;
       counted = w .1;
       of = λ k h.
           elim (ℕ-discrete k v) [
             | yes z ↦ (omega arith, rw z itself)
-            | no x ↦ absurd (omega (arith, D .none k, rw (getD-set-other marks v k 1 0 x) at h))
+            | no x ↦ absurd (omega (arith, clear .none k, rw (getD-set-other marks v k 1 0 x) at h))
           ];
-      to = λ k h a. rw (only-itself C (D .least) a h, getD-set-same marks v 1 0 (omega (arith, D .room, C .inside))) (omega arith);
+      to = λ k h a. rw (only-itself C (D .least) a h, getD-set-same marks v 1 0 (omega (arith, clear .room, C .inside))) (omega arith);
     }
+
+-- ---- either pass
+
+-- where it is, and how many it counted
+pub data Going (s vs : List ℕ) (v i : ℕ) (ws marks : List ℕ) (c : ℕ) : Bool → Type 0 where
+  over-all :
+      Assigned s vs
+      → i ≤ problem s .nodes
+      → problem s .nodes ≤ length marks
+      → c ≤ i + 1
+      → ws ≡ evalUp (problem s) i vs
+      → Going s vs v i ws marks c true
+  over-above : {slots : List ℕ} → Changed s slots vs v → Passing s vs v i ws marks c → Going s vs v i ws marks c false
+
+module _ {s vs marks : List ℕ} {v first : ℕ} where
+  pub going-marks : {all : Bool} → Asked s vs v first all → Clear s marks → v < length marks
+  going-marks (whole a z e) clear = omega (arith, clear .some)
+  going-marks (part D) clear = omega (arith, clear .room, D .changed .inside)
+
+  pub going-start : {all : Bool} → Asked s vs v first all → Clear s marks → Going s vs v first vs (set marks v 1) 1 all
+  going-start (whole a z e) clear =
+      over-all a (omega arith) (omega (arith, clear .room, length-set marks v 1)) (omega arith) (sym (ap (λ (k : ℕ). evalUp (problem s) k vs) e ∙ evalUp-none (problem s) vs))
+  going-start (part D) clear = over-above (D .changed) (pass-start D clear)
+
+module _ {s vs ws marks : List ℕ} {v i c : ℕ} where
+  pub going-few : {all : Bool} → Going s vs v i ws marks c all → c ≤ 1025
+  going-few (over-all a l r h e) = omega (arith, good-of s (a .accepted) .few)
+  going-few (over-above C o) = omega (arith, pass-few C o)
+
+  pub going-room : {all : Bool} → Going s vs v i ws marks c all → problem s .nodes ≤ length marks
+  going-room (over-all a l r h e) = r
+  going-room (over-above C o) = o .room
+
+  pub going-long : {all : Bool} → Going s vs v i ws marks c all → length ws ≡ length vs
+  going-long (over-all a l r h e) = ap length e ∙ length-evalUp (problem s) i vs
+  going-long (over-above C o) = o .renewed .long
+
+  pub going-evaluable : {all : Bool} → Going s vs v i ws marks c all → i < problem s .nodes → Evaluable s ws i
+  going-evaluable (over-all a l r h e) b = evaluable s vs ws i a b e
+  going-evaluable (over-above C o) b = pass-evaluable C o b
+
+  pub going-more :
+      {us next : List ℕ} {r : ℕ} {all : Bool}
+      → Going s vs v i ws marks c all
+      → i < problem s .nodes
+      → Passed s i all ws marks us next r
+      → Going s vs v (i + 1) us next (c + r) all
+  going-more (over-all a l m h e) b p = all-more a m h e b p
+    where
+      all-more :
+          {us next : List ℕ} {r : ℕ}
+          → Assigned s vs
+          → problem s .nodes ≤ length marks
+          → c ≤ i + 1
+          → ws ≡ evalUp (problem s) i vs
+          → i < problem s .nodes
+          → Passed s i true ws marks us next r
+          → Going s vs v (i + 1) us next (c + r) true
+      all-more a m h e b (renewed w p q z) =
+          over-all a (omega arith) (omega (arith, ap length q ∙ length-set marks i 1)) (omega arith)
+          (p ∙ evalUp-step (problem s) i (valueOf (problem s) ws i) ws vs e refl)
+      all-more a m h e b (left x p q z) = absurd (x (inl refl))
+  going-more (over-above C o) b p = over-above C (pass-more C o b p)
+
+  pub going-end : {all : Bool} → Going s vs v i ws marks c all → problem s .nodes ≤ i → Answered s vs v all ws c
+  going-end (over-all a l r h e) b = whole (evaluated-all (problem s) vs ws i (omega arith) e)
+  going-end (over-above C o) b = part (pass-end C o (omega (arith, o .inside)))
+
+-- marks in an array of zeros
+pub clear-in : {s : List ℕ} (size : ℕ) → 0 < size → problem s .nodes ≤ size → Clear s (replicate size 0)
+clear-in size p l =
+    record {
+      some = omega (arith, length-replicate {A = ℕ} size 0);
+      room = omega (arith, length-replicate {A = ℕ} size 0);
+      none = zeros-at size;
+    }
+
+pub asked-few : {s vs : List ℕ} {v first : ℕ} {all : Bool} → Asked s vs v first all → problem s .nodes ≤ 1024
+asked-few {s} (whole a z e) = good-of s (a .accepted) .few
+asked-few (part D) = changed-few (D .changed)
+
+pub answered-whole : {s vs us : List ℕ} {v r : ℕ} → Answered s vs v true us r → us ≡ evaluate (problem s) vs
+answered-whole (whole e) = e
+
+pub answered-part : {s vs us : List ℕ} {v r : ℕ} → Answered s vs v false us r → Renewal s vs v us r
+answered-part (part w) = w

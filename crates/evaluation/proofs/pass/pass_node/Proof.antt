@@ -1,23 +1,23 @@
--- `evaluation::above::pass` meets its contract.
+-- `evaluation::pass::pass_node` meets its contract.
 use native.Mathlib.Omega.{arith}
 use Rattle.evaluation.specs.laws.Readings.{node-there}
 use Rattle.evaluation.specs.laws.Passing.{operands-marked, passed-over, passed-on}
 use borrow.Author.Needs.{needs}
-use Rattle.evaluation.proofs.above.pass.Statement.{statement}
-use Rattle.evaluation.proofs.above.pass.Tie as tie
+use Rattle.evaluation.proofs.pass.pass_node.Statement.{statement}
+use Rattle.evaluation.proofs.pass.pass_node.Tie as tie
 
 node-at-requires : tie.Need-node-at-requires
 node-at-requires c κs = let v = c .before .before .before .before .pre .0 in node-there _ _ (v .accepted) (v .inside)
 
-reads-marked-requires : tie.Need-reads-marked-requires
-reads-marked-requires c κs = let s = c .before .before .before .before .before in
+wanted-requires : tie.Need-wanted-requires
+wanted-requires c κs = let s = c .before .before .before .before .before in
     operands-marked (s .args .marks .now) (s .pre .0) (c .node-at .ensures) (s .pre .1)
 
 same-length : tie.Need-same-length
 same-length c = search needs
 
 returns : tie.Need-returns
-returns c = passed-over (c .before .reads-marked .ensures) (c .before .before .node-at .ensures) (c .if1 .taken)
+returns c = passed-over (c .before .wanted .ensures) (c .before .before .node-at .ensures) (c .if1 .taken)
 
 value-at-requires : tie.Need-value-at-requires
 value-at-requires c κs = search needs
@@ -39,14 +39,14 @@ same-length-3 c = search needs
 
 returns-2 : tie.Need-returns-2
 returns-2 c = let b = c .before .before in
-    passed-on (b .before .reads-marked .ensures) (b .before .before .node-at .ensures) (b .if1 .left) (c .value-at .ensures)
+    passed-on (b .before .wanted .ensures) (b .before .before .node-at .ensures) (b .if1 .left) (c .value-at .ensures)
 
-pub pass-spec : {M : Type 1} → statement M
-pass-spec =
+pub pass-node-spec : {M : Type 1} → statement M
+pass-node-spec =
     tie.close
     (tie.spec
     node-at-requires
-    reads-marked-requires
+    wanted-requires
     same-length
     returns
     value-at-requires

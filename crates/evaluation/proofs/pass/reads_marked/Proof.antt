@@ -1,10 +1,10 @@
--- `evaluation::above::reads_marked` meets its contract.
+-- `evaluation::pass::reads_marked` meets its contract.
 use mathlib.Core.Path.{_≡_, sym, _∙_}
 use native.Mathlib.Omega.{arith}
 use borrow.Author.Needs.{needs}
 use Rattle.evaluation.specs.laws.Passing.{reads-none, reads-one, reads-two, reads-three}
-use Rattle.evaluation.proofs.above.reads_marked.Statement.{statement}
-use Rattle.evaluation.proofs.above.reads_marked.Tie as tie
+use Rattle.evaluation.proofs.pass.reads_marked.Statement.{statement}
+use Rattle.evaluation.proofs.pass.reads_marked.Tie as tie
 
 operand-count-requires : tie.Need-operand-count-requires
 operand-count-requires c κs = search needs

@@ -1,0 +1,89 @@
+// One pass over the nodes, in ascending id, so that a node comes after all that it reads: all of them are evaluated, or those that
+// read a marked one. Both are one loop with one call of `value_at`, which the compiler then makes part of it.
+ghost use mathlib.Core.Path.{_≡_};
+ghost use Prim.Native.Nat.{_≤_, _<_};
+ghost use lib.Dec.{ltb};
+ghost use lib.ListN.{length, getD};
+ghost use Rattle.evaluation.specs.Problem.{problem};
+ghost use Rattle.evaluation.specs.inner.Evaluation.{OperandsBelow, Evaluable};
+ghost use Rattle.evaluation.specs.inner.Readers.{Tells, ReadsMarked, Wanted, Passed, Clear, Asked, Answered};
+use crate::values::value_at;
+use operators::operand_count;
+use problem::Node;
+use problem::node_at;
+use problem::node_count;
+
+// Whether an id is marked.
+fn marked(marks: &[u8], id: u16) -> bool
+    requires { ⌜ id < length (now marks) ⌝ }
+    ensures { λ r. ⌜ r ≡ ltb 0 (getD (now (marks .entry)) id 0) ⌝ }
+{
+    0 < marks[id as usize]
+}
+
+// Whether a node reads a marked one.
+fn reads_marked(marks: &[u8], n: Node) -> bool
+    requires { ⌜ OperandsBelow n (length (now marks)) ⌝ }
+    ensures { λ r. ⌜ Tells r (ReadsMarked (now (marks .entry)) n) ⌝ }
+{
+    match operand_count(n.kind) {
+        0 => false,
+        1 => marked(marks, n.a),
+        2 => marked(marks, n.a) | marked(marks, n.b),
+        _ => marked(marks, n.a) | marked(marks, n.b) | marked(marks, n.c),
+    }
+}
+
+// Whether a node is to be evaluated.
+fn wanted(marks: &[u8], n: Node, all: bool) -> bool
+    requires { ⌜ OperandsBelow n (length (now marks)) ⌝ }
+    ensures { λ r. ⌜ Tells r (Wanted all (now (marks .entry)) n) ⌝ }
+{
+    if all {
+        return true;
+    }
+    reads_marked(marks, n)
+}
+
+// Node i evaluated and marked, if it is to be; and how many were.
+fn pass_node(bytes: &[u8], values: &mut [u64], marks: &mut [u8], i: u16, all: bool) -> u64
+    requires { ⌜ Evaluable (now bytes) (now values) i × (problem (now bytes) .nodes ≤ length (now marks)) ⌝ }
+    ensures { λ r. ⌜ Passed (now (bytes .entry)) i all (now (values .entry)) (now (marks .entry)) (now (values .exit)) (now (marks .exit)) r ⌝ }
+{
+    if !wanted(marks, node_at(bytes, i), all) {
+        return 0;
+    }
+    let x = value_at(bytes, values, i);
+    values[i as usize] = x;
+    marks[i as usize] = 1;
+    1
+}
+
+// The nodes from `first` on: all, or those above v, of which `first` is the first that reads it. Answers how many these are.
+fn pass(bytes: &[u8], values: &mut [u64], marks: &mut [u8], v: u16, first: u16, all: bool) -> u64
+    requires { ⌜ Asked (now bytes) (now values) v first all × Clear (now bytes) (now marks) ⌝ }
+    ensures { λ r. ⌜ Answered (now (bytes .entry)) (now (values .entry)) v all (now (values .exit)) r ⌝ }
+{
+    marks[v as usize] = 1;
+    let n = node_count(bytes);
+    let mut count: u64 = 1;
+    let mut i = first;
+    while i < n {
+        count += pass_node(bytes, values, marks, i, all);
+        i += 1;
+    }
+    count
+}
+
+// The same with marks of its own: few nodes need few.
+pub(crate) fn pass_over(bytes: &[u8], values: &mut [u64], v: u16, first: u16, all: bool) -> u64
+    requires { ⌜ Asked (now bytes) (now values) v first all ⌝ }
+    ensures { λ r. ⌜ Answered (now (bytes .entry)) (now (values .entry)) v all (now (values .exit)) r ⌝ }
+{
+    if node_count(bytes) <= 128 {
+        let mut marks = [0u8; 128];
+        return pass(bytes, values, &mut marks, v, first, all);
+    }
+    let mut marks = [0u8; 1024];
+    pass(bytes, values, &mut marks, v, first, all)
+}
