@@ -5,10 +5,9 @@ ghost use Prim.Native.Nat.{_≤_, _<_};
 ghost use lib.Dec.{ltb};
 ghost use lib.ListN.{length, getD};
 ghost use Rattle.evaluation.specs.Problem.{problem};
-ghost use Rattle.evaluation.specs.inner.Evaluation.{OperandsBelow, Evaluable};
-ghost use Rattle.evaluation.specs.inner.Readers.{Tells, ReadsMarked, Wanted, Passed, Clear, Asked, Answered};
+ghost use Rattle.evaluation.specs.inner.Evaluation.{Evaluable};
+ghost use Rattle.evaluation.specs.inner.Readers.{Tells, Markable, ReadsMarked, Wanted, Passed, Clear, Asked, Answered};
 use crate::values::value_at;
-use operators::operand_count;
 use problem::Node;
 use problem::node_at;
 use problem::node_count;
@@ -21,22 +20,23 @@ fn marked(marks: &[u8], id: u16) -> bool
     0 < marks[id as usize]
 }
 
-// Whether a node reads a marked one.
+// Whether a node reads a marked one: most kinds have two operands.
 fn reads_marked(marks: &[u8], n: Node) -> bool
-    requires { ⌜ OperandsBelow n (length (now marks)) ⌝ }
+    requires { ⌜ Markable n (length (now marks)) ⌝ }
     ensures { λ r. ⌜ Tells r (ReadsMarked (now (marks .entry)) n) ⌝ }
 {
-    match operand_count(n.kind) {
-        0 => false,
-        1 => marked(marks, n.a),
-        2 => marked(marks, n.a) | marked(marks, n.b),
-        _ => marked(marks, n.a) | marked(marks, n.b) | marked(marks, n.c),
+    let kind = n.kind;
+    match kind {
+        2 | 13 | 16 => marked(marks, n.a),
+        11 => marked(marks, n.a) | marked(marks, n.b) | marked(marks, n.c),
+        0..=1 => false,
+        _ => marked(marks, n.a) | marked(marks, n.b),
     }
 }
 
 // Whether a node is to be evaluated.
 fn wanted(marks: &[u8], n: Node, all: bool) -> bool
-    requires { ⌜ OperandsBelow n (length (now marks)) ⌝ }
+    requires { ⌜ Markable n (length (now marks)) ⌝ }
     ensures { λ r. ⌜ Tells r (Wanted all (now (marks .entry)) n) ⌝ }
 {
     if all {

@@ -6,6 +6,7 @@ use mathlib.Core.List.{List, [], _∷_}
 use Prim.Native.Nat.{ℕ, zero, suc, _+_, _*_, _≤_, _<_}
 use lib.Dec.{ltb, eqb}
 use lib.ListN.{length, getD, set}
+use Rattle.operators.specs.Table.{kindCount}
 use Rattle.problem.specs.declared.layout.Node.{Node}
 use Rattle.problem.specs.Layout.{nodeAt}
 use Rattle.problem.specs.declared.Checked.the-variants.{Accepted}
@@ -14,7 +15,7 @@ use Rattle.picking.specs.declared.spot.Three.{Three}
 use Rattle.picking.specs.Spot.{at}
 use Rattle.evaluation.specs.Problem.{problem, Variable, valueOf, evaluate}
 use Rattle.evaluation.specs.Values.{Evaluated}
-use Rattle.evaluation.specs.inner.Evaluation.{ids, operandCount, Assigned}
+use Rattle.evaluation.specs.inner.Evaluation.{ids, operandCount, OperandsBelow, Assigned}
 use Rattle.evaluation.specs.Readers.{Reads, Above, Index}
 use Rattle.evaluation.specs.inner.Lists.{Count, ListsFrom}
 
@@ -87,6 +88,11 @@ pub record Tells (r : Bool) (A : Type 0) : Type 0 where
 
 abbrev pub Marked : List ℕ → ℕ → Type 0
 Marked marks m = 0 < getD marks m 0
+
+-- a node of a known kind, whose operands have so many marks
+pub record Markable (n : Node) (k : ℕ) : Type 0 where
+  pub known : n .kind < kindCount
+  pub below : OperandsBelow n k
 
 -- a node reads a marked one
 pub record ReadsMarked (marks : List ℕ) (n : Node) : Type 0 where

@@ -15,19 +15,18 @@ use lib.Seq.{getD-set-same, getD-set-other}
 use Rattle.problem.specs.declared.layout.Node.{Node}
 use Rattle.problem.specs.Layout.{nodeAt}
 use Rattle.evaluation.specs.Problem.{Prob, problem, valueOf, evalUp, evaluate}
-use Rattle.picking.specs.laws.Positions.{few-positions}
 use Rattle.evaluation.specs.Lists.{Lists}
 use Rattle.evaluation.specs.Readers.{Chain, Reads, Above, itself, onward}
 use Rattle.evaluation.specs.inner.Good.{Good}
-use Rattle.evaluation.specs.inner.Evaluation.{operandCount, OperandsBelow, Evaluable, Assigned}
+use Rattle.evaluation.specs.inner.Evaluation.{operandCount, Evaluable, Assigned}
 use Rattle.evaluation.specs.inner.Lists.{Count}
-use Rattle.evaluation.specs.inner.Readers.{operandAt, Tells, Marked, ReadsMarked, Wanted, Passed, Passed.renewed, Passed.left, Clear, Due, Asked, Asked.whole, Asked.part, Answered, Answered.whole, Answered.part, Changed, Renewal}
+use Rattle.evaluation.specs.inner.Readers.{operandAt, Tells, Marked, Markable, ReadsMarked, Wanted, Passed, Passed.renewed, Passed.left, Clear, Due, Asked, Asked.whole, Asked.part, Answered, Answered.whole, Answered.part, Changed, Renewal}
 use Rattle.evaluation.specs.laws.Decide.{Some, lists-find, lists-length, lists-member}
 use Rattle.evaluation.specs.laws.Good.{good-of}
 use Rattle.evaluation.specs.laws.Values.{length-evalUp, evalUp-none, evalUp-step, evalUp-lt, evaluate-variable}
 use Rattle.evaluation.specs.laws.Lists.{count-none, count-keep, count-skip, lists-least}
 use Rattle.evaluation.specs.laws.Linking.{zeros-at}
-use Rattle.evaluation.specs.laws.Readings.{evaluable, evaluated-all}
+use Rattle.evaluation.specs.laws.Readings.{kind-there, evaluable, evaluated-all}
 use Rattle.evaluation.specs.laws.Chains.{chain-none, chain-first}
 use Rattle.evaluation.specs.laws.Above.{Renewed, renewed-none, renewed-all, renewed-skip, renewed-keep, above-from, reads-below}
 
@@ -81,28 +80,27 @@ module _ (marks : List ℕ) (n : Node) where
   unfolding anyBelow
   reads-two q = reads-any 2 q
 
-  -- a kind has at most three operands
   pub reads-three :
-      (c : ℕ)
-      → c ≡ operandCount n
-      → (c ≡ 0 → ⊥)
-      → (c ≡ 1 → ⊥)
-      → (c ≡ 2 → ⊥)
+      3 ≡ operandCount n
       → Tells (ltb 0 (getD marks (n .a) 0) || ltb 0 (getD marks (n .b) 0) || ltb 0 (getD marks (n .c) 0)) (ReadsMarked marks n)
   unfolding anyBelow
-  reads-three c q x y z = reads-any 3 (omega (arith, few-positions (n .kind)))
+  reads-three q = reads-any 3 q
 
 -- ---- one node
 
 -- its operands have marks
-pub operands-marked :
+pub markable :
     {s vs : List ℕ} {i : ℕ} {d : Node} (marks : List ℕ)
     → Evaluable s vs i
     → d ≡ nodeAt s i
     → problem s .nodes ≤ length marks
-    → OperandsBelow d (length marks)
+    → Markable d (length marks)
 unfolding problem
-operands-marked {s} {i = i} marks v e l j h = rw e (omega (arith, good-of s (v .accepted) .node i (v .inside) .below j (rw e at h), v .inside))
+markable {s} {vs} {i} marks v e l =
+    record {
+      known = rw e (kind-there s vs i v);
+      below = λ j h. rw e (omega (arith, good-of s (v .accepted) .node i (v .inside) .below j (rw e at h), v .inside));
+    }
 
 module _ {all : Bool} {marks : List ℕ} {d : Node} where
   pub wanted-all : all ≡ true → Tells true (Wanted all marks d)

@@ -1,7 +1,7 @@
 -- `evaluation::pass::pass_node` meets its contract.
 use native.Mathlib.Omega.{arith}
 use Rattle.evaluation.specs.laws.Readings.{node-there}
-use Rattle.evaluation.specs.laws.Passing.{operands-marked, passed-over, passed-on}
+use Rattle.evaluation.specs.laws.Passing.{markable, passed-over, passed-on}
 use borrow.Author.Needs.{needs}
 use Rattle.evaluation.proofs.pass.pass_node.Statement.{statement}
 use Rattle.evaluation.proofs.pass.pass_node.Tie as tie
@@ -11,7 +11,7 @@ node-at-requires c κs = let v = c .before .before .before .before .pre .0 in no
 
 wanted-requires : tie.Need-wanted-requires
 wanted-requires c κs = let s = c .before .before .before .before .before in
-    operands-marked (s .args .marks .now) (s .pre .0) (c .node-at .ensures) (s .pre .1)
+    markable (s .args .marks .now) (s .pre .0) (c .node-at .ensures) (s .pre .1)
 
 same-length : tie.Need-same-length
 same-length c = search needs
