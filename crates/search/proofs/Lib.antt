@@ -2,5 +2,6 @@
 pub mod RootPlaces
 pub mod Steps
 pub mod Places
+pub mod Turns
 pub mod Runs
 pub mod Links

@@ -4,7 +4,6 @@ use mathlib.Core.List.{List, [], _∷_, _++_}
 use Prim.Native.Nat.{ℕ, zero, suc, _+_, _*_, _-_, _%_, _≤_, _<_}
 use native.Mathlib.Omega.{arith}
 use native.Mathlib.Nat.{not-suc-le-zero, add-zero}
-use native.Mathlib.Numerals.{add-one}
 use native.Mathlib.Decide.{ℕ-discrete}
 use lib.ListN.{length, getD, drop, length-drop, length-append, List·getD-append}
 use lib.Seq.{getD-drop, drop-drop, getD-append-seam}
@@ -27,8 +26,9 @@ use Rattle.evaluation.specs.laws.Nodes.{operand-node}
 use Rattle.evaluation.specs.laws.Pairs.{length-fillUp, pairs-ternary}
 use Rattle.evaluation.specs.laws.Spot.{spot-fair}
 use Rattle.evaluation.specs.laws.Decide.{Stands, lists-find, lists-member}
-use Rattle.search.specs.promises.Determined.{lists-unique}
-use Rattle.search.specs.inner.Run.{Aimed, outOf, Stepping, Searching, Walking, Count, Nth}
+use Rattle.evaluation.specs.laws.Lists.{lists-unique}
+use Rattle.evaluation.specs.inner.Lists.{Count}
+use Rattle.search.specs.inner.Run.{Aimed, outOf, Stepping, Searching, Walking, Nth}
 use Rattle.search.specs.laws.Moves.{Next, step-next, root-aimed}
 use Rattle.evaluation.specs.inner.Evaluation.{ids, OperandsBelow, heldIn, widthsIn, Filled, Spotted, spotIn}
 
@@ -158,25 +158,6 @@ module _ {s vs tape : List ℕ} {from start made n t k steps : ℕ} (o : On s vs
             }
 
 -- ---- counts
-
-module _ (A : ℕ → Type 0) where
-  pub count-none : Count A 0 0
-  count-none = record { list = []; lists = done; is = refl }
-
-  pub count-keep : {j c : ℕ} → Count A j c → A j → Count A (j + 1) (c + 1)
-  count-keep {j} r a =
-      record {
-        list = r .list ++ (j ∷ []);
-        lists = rw (add-one j) (keep (r .lists) a);
-        is = length-append (r .list) (j ∷ []) ∙ ap (λ (i : ℕ). i + 1) (r .is);
-      }
-
-  pub count-skip : {j c : ℕ} → Count A j c → (A j → ⊥) → Count A (j + 1) c
-  count-skip {j} r x = record { list = r .list; lists = rw (add-one j) (skip (r .lists) x); is = r .is }
-
-  -- two counts of one set are equal
-  pub count-unique : {n m c d : ℕ} → n ≡ m → Count A n c → Count A m d → c ≡ d
-  count-unique e r q = sym (r .is) ∙ ap length (lists-unique (rw e at (r .lists)) (q .lists)) ∙ q .is
 
 -- the k-th member stands at k in the list
 nth-at :

@@ -1,9 +1,10 @@
 -- What the loop of a run takes from the definitions, and how a call begins.
-use mathlib.Core.Path.{_≡_, refl, sym, ap, _∙_}
+use mathlib.Core.Path.{_≡_, refl, sym, _∙_}
 use mathlib.Core.List.{List}
-use Prim.Native.Nat.{ℕ, _+_, _*_, _≤_, _<_}
+use Prim.Native.Nat.{ℕ, zero, suc, _+_, _*_, _^_, _≤_, _<_}
 use native.Mathlib.Omega.{arith}
-use lib.ListN.{length, set, drop, length-set}
+use native.Mathlib.Nat.{add-zero}
+use lib.ListN.{length, getD, drop, replicate, length-replicate}
 use mathlib.Core.Bool.{cond}
 use lib.Dec.{ltb}
 use Rattle.problem.specs.declared.Checked.{Checked}
@@ -16,90 +17,126 @@ use Rattle.problem.specs.laws.First.{then-left, then-right, then-accepted, then
 use Rattle.search.specs.declared.Verdict.{Verdict}
 use Rattle.search.specs.declared.Answer.{Answer}
 use Rattle.evaluation.specs.Problem.{problem, evaluate}
-use Rattle.search.specs.Run.{End, sets, stuck, short, ClosedRoot, Unsatisfied, AllOne, Move, answer, Run, Run.model, Run.spent, Run.ended, Run.moved, Run.held}
+use Rattle.search.specs.declared.moves.Turn.the-variants.{Finished, Unfinished}
+use Rattle.search.specs.Run.{ClosedRoot, Unsatisfied, AllOne, answer, Run, Run.model, Run.spent, Run.ended, Run.moved, Run.held}
 use Rattle.search.specs.Call.{placesFault, startFault, refusals}
-use Rattle.evaluation.specs.inner.Good.{Good}
+use Rattle.evaluation.specs.inner.Good.{Good, Held}
 use Rattle.evaluation.specs.laws.Good.{good-of}
 use Rattle.evaluation.specs.laws.Values.{held-evaluate}
 use Rattle.search.specs.promises.Accepted.{accepted-start}
-use Rattle.search.specs.laws.Moves.{Lands, move-lands}
-use Rattle.search.specs.laws.Runs.{kept-after, after-agrees}
+use Rattle.search.specs.laws.Moves.{move-lands}
+use Rattle.search.specs.laws.Runs.{kept-after}
 use Rattle.evaluation.specs.inner.Evaluation.{Assigned, Filled}
-use Rattle.search.specs.inner.Run.{Searching, Count, Lent}
+use Rattle.evaluation.specs.inner.Lists.{Count}
+use Rattle.evaluation.specs.inner.Readers.{Unindexed, Indexed}
+use Rattle.evaluation.specs.laws.Decide.{lists-length}
+use Rattle.search.specs.inner.Run.{Searching, Drawing, Finishes, Finishes.sets-one, Finishes.sets-none, Turned, Searched, Lent}
 use Rattle.search.proofs.Places.{no-more, some-left}
 
--- where the loop of a run is: values that hold, m moves and so many steps made, at place k of the tape; and what the rest of
--- the run comes to, the whole run comes to
-pub record Going (s los his start tape : List ℕ) (B : ℕ) (vs : List ℕ) (m steps k : ℕ) : Type 0 where
+-- where the loop of a run is: values that hold, with the problem's own index of readers, m moves and so many steps made, at
+-- place k of the tape, e nodes evaluated; and what the rest of the run comes to, the whole run comes to
+pub record Going (s los his slots start tape : List ℕ) (B : ℕ) (vs : List ℕ) (m steps k e : ℕ) : Type 0 where
   pub searching : Searching s los his vs
+  pub indexed : Indexed s slots
   pub long : length vs ≡ length start
   pub most : m ≤ B
   pub on-tape : k ≤ length tape
   pub words : k ≡ m + 2 * steps
-  pub onto : (out : List ℕ) (a : Answer) → Run (problem s) B vs (drop k tape) m steps out a → Run (problem s) B start tape 0 0 out a
+  pub few : e ≤ 1024 * (m + 1)
+  pub onto : (out : List ℕ) (a : Answer) → Run (problem s) B vs (drop k tape) m steps e out a → Searched s start tape B out a
 
-pub going-start : {s los his start tape : List ℕ} {B : ℕ} → Searching s los his start → Going s los his start tape B start 0 0 0
-going-start W = record { searching = W; long = refl; most = omega arith; on-tape = omega arith; words = refl; onto = λ out a x. x }
+pub going-start :
+    {s los his slots start tape : List ℕ} {B e : ℕ}
+    → Searching s los his start
+    → Indexed s slots
+    → e ≡ problem s .nodes
+    → Going s los his slots start tape B start 0 0 0 e
+going-start {s} W i q =
+    record {
+      searching = W;
+      indexed = i;
+      long = refl;
+      most = omega arith;
+      on-tape = omega arith;
+      words = refl;
+      few = omega (arith, q, good-of s (W .filled .accepted) .few);
+      onto = λ out a x. rw q at x;
+    }
 
-module _ {s los his start tape : List ℕ} {B : ℕ} {vs : List ℕ} {m steps k : ℕ} (o : Going s los his start tape B vs m steps k)
+module _ {s los his slots start tape : List ℕ} {B : ℕ} {vs : List ℕ} {m steps k e : ℕ} (o : Going s los his slots start tape B vs m steps k e)
     {u : ℕ} (c : Count (Unsatisfied (problem s) vs) (problem s .entries) u) where
-  pub going-model : u ≡ 0 → Run (problem s) B start tape 0 0 vs (answer m steps Verdict.Model)
+  pub going-model : u ≡ 0 → Searched s start tape B vs (answer m steps e Verdict.Model)
   going-model z = o .onto _ _ (model (no-more (problem s) vs (rw z at c)))
 
   module _ (h : 0 < u) where
     not-all : AllOne (problem s) vs → ⊥
     not-all = some-left (problem s) vs h c
 
-    pub going-spent : B ≤ m → Run (problem s) B start tape 0 0 vs (answer m steps Verdict.Spent)
+    pub going-spent : B ≤ m → Searched s start tape B vs (answer m steps e Verdict.Spent)
     going-spent b = o .onto _ _ (spent not-all b)
 
+    pub going-draws : Drawing s los his vs tape u k steps
+    going-draws = record { searching = o .searching; counted = c; some = h; on-tape = o .on-tape; made-le = omega (arith, o .words) }
+
     module _ (b : m < B) where
-      pub going-ended : Move (problem s) vs (drop k tape) steps short → Run (problem s) B start tape 0 0 vs (answer m steps Verdict.Ended)
-      going-ended q = o .onto _ _ (ended not-all b q)
+      pub going-ended : {us : List ℕ} → Turned (problem s) vs tape k steps us Unfinished → Searched s start tape B us (answer m steps e Verdict.Ended)
+      going-ended q = rw (q .1) (o .onto _ _ (ended not-all b (q .0)))
 
-      -- a move leaves the run at place l, with t steps made
-      module _ {l t : ℕ} (p : (l ≤ length tape) × (l + 2 * steps ≡ k + 1 + 2 * t)) where
-        pub going-held : Move (problem s) vs (drop k tape) steps (stuck t (drop l tape)) → Going s los his start tape B vs (m + 1) t l
-        going-held q =
-            record {
-              searching = o .searching;
-              long = o .long;
-              most = omega arith;
-              on-tape = p .0;
-              words = omega (arith, o .words, p .1);
-              onto = λ out a x. o .onto out a (held not-all b q x);
-            }
+      good : Good (problem s)
+      good = good-of s (o .searching .filled .accepted)
 
-        module _ {n v : ℕ} (q : Move (problem s) vs (drop k tape) steps (sets n v t (drop l tape))) where
-          good : Good (problem s)
-          good = good-of s (o .searching .filled .accepted)
+      few-more : {us : List ℕ} {r t l : ℕ} → Finishes (problem s) vs tape k steps us r t l → r ≤ 1024
+      few-more (sets-one q y w) = omega (arith, w .is, lists-length (w .lists), good .few)
+      few-more (sets-none q y z) = omega arith
 
-          lands : Lands (problem s) n v
-          lands = move-lands (problem s) good vs (o .searching .open-roots) not-all q
+      -- the count fits
+      pub going-fits : {us : List ℕ} {r t l : ℕ} → Turned (problem s) vs tape k steps us (Finished r t l) → B < 65536 → e + r < 2 ^ 64
+      going-fits w h = omega (arith, o .few, few-more (w .0))
 
-          pub place-lt : n < length vs
-          place-lt = omega (arith, lands .node, o .searching .held .places)
+      -- the values after a finished move hold, in as many places, and the rest of the run goes on from them
+      record Onward (us : List ℕ) (r t l : ℕ) : Type 0 where
+        held-on : Held (problem s) us
+        same-long : length us ≡ length vs
+        run-on : (out : List ℕ) (a : Answer) → Run (problem s) B us (drop l tape) (m + 1) t (e + r) out a → Run (problem s) B vs (drop k tape) m steps e out a
 
-          pub assigned : Assigned s (set vs n v)
-          assigned =
-              record {
-                accepted = o .searching .filled .accepted;
-                places = omega (arith, length-set vs n v, o .searching .held .places);
-                agrees = after-agrees (problem s) good vs (o .searching .held) n v lands;
-              }
+      onward : {us : List ℕ} {r t l : ℕ} → Finishes (problem s) vs tape k steps us r t l → Onward us r t l
+      onward (sets-one {n} {v} q y w) =
+          let after = kept-after (problem s) good vs (o .searching .held) n v (move-lands (problem s) good vs (o .searching .open-roots) not-all q) in
+          record {
+            held-on = rw y (after .values);
+            same-long = rw y (after .long);
+            run-on = λ out a x. moved not-all b q (w .lists) (rw (y, ← w .is) at x);
+          }
+      onward (sets-none q y z) =
+          record {
+            held-on = rw y (o .searching .held);
+            same-long = rw y refl;
+            run-on = λ out a x. held not-all b q (rw (y, z, add-zero e) at x);
+          }
 
-          pub going-moved : {us : List ℕ} → us ≡ evaluate (problem s) (set vs n v) → Going s los his start tape B us (m + 1) t l
-          going-moved e =
-              let after = kept-after (problem s) good vs (o .searching .held) n v lands in
-              record {
-                searching =
-                    record { filled = o .searching .filled; open-roots = o .searching .open-roots; held = rw e (after .values) };
-                long = rw e (after .long ∙ o .long);
-                most = omega arith;
-                on-tape = p .0;
-                words = omega (arith, o .words, p .1);
-                onto = λ out a x. o .onto out a (moved not-all b q (rw e at x));
-              }
+      pub going-on : {us : List ℕ} {r t l : ℕ} → Turned (problem s) vs tape k steps us (Finished r t l) → Going s los his slots start tape B us (m + 1) t l (e + r)
+      going-on w =
+          let n = onward (w .0) in
+          record {
+            searching = record { filled = o .searching .filled; open-roots = o .searching .open-roots; held = n .held-on };
+            indexed = o .indexed;
+            long = n .same-long ∙ o .long;
+            most = omega arith;
+            on-tape = w .1;
+            words = omega (arith, o .words, w .2);
+            few = omega (arith, o .few, few-more (w .0));
+            onto = λ out a x. o .onto out a (n .run-on out a x);
+          }
+
+-- ---- an index that is not built yet
+
+all-zero : (n k : ℕ) → _≡_ {A = ℕ} (getD (replicate n 0) k 0) 0
+all-zero zero k = refl
+all-zero (suc n) zero = refl
+all-zero (suc n) (suc k) = all-zero n k
+
+pub unindexed : {s : List ℕ} (n : ℕ) → checked s ≡ Accepted → 4 * problem s .nodes ≤ n → Unindexed s (replicate n 0)
+unindexed n a h = record { accepted = a; room = rw (length-replicate {A = ℕ} n 0) h; none = all-zero n }
 
 -- ---- refusals of a call
 

@@ -31,9 +31,9 @@ startFault s start i = firstOf i ((15, eqb (nodeAt s i .kind) 0 && disagrees (no
 unfoldable pub refusals : List ℕ → List ℕ → Checked
 refusals s start = checked s then placesFault s start then firstBelow (startFault s start) (nodeCount s)
 
--- "A refusal names its place, has all counts 0 and changes no lent place."
+-- "A refusal names its place, has all counts 0 and changes no lent place." R-7: ".. refusals add 0"
 abbrev pub refused : Refusal → Answer
-refused r = record { moves = 0; steps = 0; words = 0; outcome = Outcome.Refused r }
+refused r = record { moves = 0; steps = 0; words = 0; evaluated = 0; outcome = Outcome.Refused r }
 
 -- a call with the bytes s, the places start, the tape ws and the budget B: the places afterwards, and the answer
 pub data Called (s start ws : List ℕ) (B : ℕ) : List ℕ → Answer → Type 0 where

@@ -1,11 +1,11 @@
 // The run of document 01, an entry point: steps, moves, and whole runs.
 ghost use mathlib.Core.Path.{_≡_};
 ghost use Prim.Native.Nat.{_+_, _*_};
-ghost use Rattle.evaluation.specs.Problem.{problem as problemIn};
-ghost use Rattle.search.specs.Run.{Run, answer};
+ghost use Rattle.evaluation.specs.inner.Readers.{Indexed};
+ghost use Rattle.search.specs.Run.{answer};
 ghost use Rattle.search.specs.Call.{Called};
 ghost use Rattle.search.specs.Needed.{Needed};
-ghost use Rattle.search.specs.inner.Run.{Searching};
+ghost use Rattle.search.specs.inner.Run.{Searching, Searched};
 
 mod heights;
 mod moves;
@@ -15,14 +15,16 @@ mod step;
 
 use evaluation::evaluate;
 use evaluation::fill;
+use evaluation::index_readers;
 use heights::fill_heights;
 use heights::longest_chain;
 use heights::words_for;
-use moves::Stop;
-use moves::make_move;
+use moves::Turn;
+use moves::finish_move;
 use problem::Checked;
 use problem::Refusal;
 use problem::check;
+use problem::node_count;
 use roots::closed_root;
 use roots::count_unsatisfied;
 use starts::refusal_of;
@@ -46,18 +48,20 @@ pub struct Answer {
     pub moves: u64,
     pub steps: u64,
     pub words: u64,
+    pub evaluated: u64,
     pub outcome: Outcome,
 }
 
-// A verdict after so many moves, steps and words.
-fn settled(moves: u64, steps: u64, words: u64, verdict: Verdict) -> Answer
+// A verdict after so many moves, steps and words, and so many nodes evaluated.
+fn settled(moves: u64, steps: u64, words: u64, evaluated: u64, verdict: Verdict) -> Answer
     requires { ⌜ words ≡ moves + 2 * steps ⌝ }
-    ensures { λ r. ⌜ r ≡ answer moves steps verdict ⌝ }
+    ensures { λ r. ⌜ r ≡ answer moves steps evaluated verdict ⌝ }
 {
     Answer {
         moves,
         steps,
         words,
+        evaluated,
         outcome: Outcome::Settled(verdict),
     }
 }
@@ -67,44 +71,59 @@ fn search(
     bytes: &[u8],
     los: &[u64; 1024],
     his: &[u64; 1024],
+    slots: &[u16],
     values: &mut [u64],
     tape: &[u64],
     budget: u16,
 ) -> Answer
-    requires { ⌜ Searching (now bytes) (now los) (now his) (now values) ⌝ }
-    ensures { λ r. ⌜ Run (problemIn (now (bytes .entry))) budget (now (values .entry)) (now (tape .entry)) 0 0 (now (values .exit)) r ⌝ }
+    requires { ⌜ Searching (now bytes) (now los) (now his) (now values) × Indexed (now bytes) (now slots) ⌝ }
+    ensures { λ r. ⌜ Searched (now (bytes .entry)) (now (values .entry)) (now (tape .entry)) budget (now (values .exit)) r ⌝ }
 {
     let most = budget as u64;
     let mut moves: u64 = 0;
     let mut steps: u64 = 0;
     let mut at: usize = 0;
+    let mut evaluated = node_count(bytes) as u64;
     loop {
         let left = count_unsatisfied(bytes, values);
         if left == 0 {
-            return settled(moves, steps, at as u64, Verdict::Model);
+            return settled(moves, steps, at as u64, evaluated, Verdict::Model);
         }
         if most <= moves {
-            return settled(moves, steps, at as u64, Verdict::Spent);
+            return settled(moves, steps, at as u64, evaluated, Verdict::Spent);
         }
         let more = moves + 1;
-        let stop = make_move(bytes, los, his, values, tape, left, at, steps);
-        match stop {
-            Stop::Sets(n, v, made, next) => {
-                values[n as usize] = v;
-                evaluate(bytes, values);
-                steps = made;
-                at = next;
-            }
-            Stop::Stuck(made, next) => {
-                steps = made;
-                at = next;
-            }
-            Stop::Short => {
-                return settled(moves, steps, at as u64, Verdict::Ended);
-            }
-        }
+        let turn = finish_move(bytes, los, his, slots, values, tape, left, at, steps);
+        let Turn::Finished(above, made, next) = turn else {
+            return settled(moves, steps, at as u64, evaluated, Verdict::Ended);
+        };
         moves = more;
+        steps = made;
+        at = next;
+        evaluated += above;
     }
+}
+
+// The search with its index of readers. 512 slots serve 128 nodes: to clear 4,096 would cost short runs on few nodes.
+fn search_indexed(
+    bytes: &[u8],
+    los: &[u64; 1024],
+    his: &[u64; 1024],
+    values: &mut [u64],
+    tape: &[u64],
+    budget: u16,
+) -> Answer
+    requires { ⌜ Searching (now bytes) (now los) (now his) (now values) ⌝ }
+    ensures { λ r. ⌜ Searched (now (bytes .entry)) (now (values .entry)) (now (tape .entry)) budget (now (values .exit)) r ⌝ }
+{
+    if node_count(bytes) <= 128 {
+        let mut slots = [0u16; 512];
+        index_readers(bytes, &mut slots);
+        return search(bytes, los, his, &slots, values, tape, budget);
+    }
+    let mut slots = [0u16; 4096];
+    index_readers(bytes, &mut slots);
+    search(bytes, los, his, &slots, values, tape, budget)
 }
 
 // A whole call: a refusal, which leaves every place as it was; or all nodes evaluated, and the search.
@@ -117,6 +136,7 @@ pub fn run(problem: &[u8], values: &mut [u64], tape: &[u64], budget: u16) -> Ans
             moves: 0,
             steps: 0,
             words: 0,
+            evaluated: 0,
             outcome: Outcome::Refused(refusal),
         };
     }
@@ -125,9 +145,9 @@ pub fn run(problem: &[u8], values: &mut [u64], tape: &[u64], budget: u16) -> Ans
     fill(problem, &mut los, &mut his);
     evaluate(problem, values);
     if closed_root(problem, &los, &his) {
-        return settled(0, 0, 0, Verdict::Closed);
+        return settled(0, 0, 0, node_count(problem) as u64, Verdict::Closed);
     }
-    search(problem, &los, &his, values, tape, budget)
+    search_indexed(problem, &los, &his, values, tape, budget)
 }
 
 // What a problem asks of a tape: H, the words for a budget, and what the problem check found.

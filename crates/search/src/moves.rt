@@ -1,11 +1,13 @@
-// Moves: from an unsatisfied root entry down to a variable, step by step.
-ghost use Prim.Native.Nat.{_+_, _<_, _≤_};
+// Moves: from an unsatisfied root entry down to a variable, step by step, and up again to all that lies above it.
+ghost use Prim.Native.Nat.{_+_};
 ghost use lib.ListN.{drop, length};
 ghost use Rattle.evaluation.specs.Problem.{problem};
-ghost use Rattle.search.specs.Run.{Walk, Move, Unsatisfied};
-ghost use Rattle.search.specs.inner.Run.{Searching, Walking, endOf, Placed, Count};
+ghost use Rattle.evaluation.specs.inner.Readers.{Indexed};
+ghost use Rattle.search.specs.Run.{Walk, Move};
+ghost use Rattle.search.specs.inner.Run.{Walking, Drawing, endOf, Placed, Turned};
 use crate::roots::nth_unsatisfied;
 use crate::step::step;
+use evaluation::evaluate_above;
 use evaluation::operand;
 use evaluation::spot_of;
 use problem::node_at;
@@ -18,6 +20,13 @@ pub(crate) enum Stop {
     Sets(u16, u64, u64, usize),
     Stuck(u64, usize),
     Short,
+}
+
+// What a move comes to: the nodes evaluated after it, the steps made so far in the run and the next place on the tape; or the
+// tape cannot serve it, and it is unfinished.
+pub(crate) enum Turn {
+    Finished(u64, u64, usize),
+    Unfinished,
 }
 
 // Down from a node whose target is 1, with the words from a place of the tape on.
@@ -71,8 +80,7 @@ pub(crate) fn make_move(
     at: usize,
     made: u64,
 ) -> Stop
-    requires { ⌜ Searching (now bytes) (now los) (now his) (now values) × Count (Unsatisfied (problem (now bytes)) (now values)) (problem (now bytes) .entries) count
-        × (0 < count) × (at ≤ length (now tape)) × (made ≤ at) ⌝ }
+    requires { ⌜ Drawing (now bytes) (now los) (now his) (now values) (now tape) count at made ⌝ }
     ensures { λ r. ⌜ Move (problem (now (bytes .entry))) (now (values .entry)) (drop at (now (tape .entry))) made (endOf (now (tape .entry)) r)
         × Placed (length (now (tape .entry))) (at + 1) made r ⌝ }
 {
@@ -91,4 +99,31 @@ pub(crate) fn make_move(
         at + 1,
         made,
     )
+}
+
+// A move and what follows: "the variable takes the target, all nodes are evaluated". Only nodes above it can change.
+pub(crate) fn finish_move(
+    bytes: &[u8],
+    los: &[u64; 1024],
+    his: &[u64; 1024],
+    slots: &[u16],
+    values: &mut [u64],
+    tape: &[u64],
+    count: u64,
+    at: usize,
+    made: u64,
+) -> Turn
+    requires { ⌜ Drawing (now bytes) (now los) (now his) (now values) (now tape) count at made × Indexed (now bytes) (now slots) ⌝ }
+    ensures { λ r. ⌜ Turned (problem (now (bytes .entry))) (now (values .entry)) (now (tape .entry)) at made (now (values .exit)) r ⌝ }
+{
+    let stop = make_move(bytes, los, his, values, tape, count, at, made);
+    match stop {
+        Stop::Sets(n, v, steps, next) => {
+            values[n as usize] = v;
+            let above = evaluate_above(bytes, slots, values, n);
+            Turn::Finished(above, steps, next)
+        }
+        Stop::Stuck(steps, next) => Turn::Finished(0, steps, next),
+        Stop::Short => Turn::Unfinished,
+    }
 }

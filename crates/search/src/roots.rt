@@ -3,8 +3,9 @@ ghost use Prim.Native.Nat.{_<_};
 ghost use Rattle.words.specs.inner.Decides.{Decides};
 ghost use Rattle.evaluation.specs.Problem.{problem};
 ghost use Rattle.evaluation.specs.inner.Evaluation.{Filled};
+ghost use Rattle.evaluation.specs.inner.Lists.{Count};
 ghost use Rattle.search.specs.Run.{ClosedRoot, Unsatisfied};
-ghost use Rattle.search.specs.inner.Run.{Moving, Count, Nth};
+ghost use Rattle.search.specs.inner.Run.{Moving, Nth};
 use problem::root_at;
 use problem::root_count;
 

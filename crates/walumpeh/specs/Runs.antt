@@ -16,10 +16,10 @@ verdictCode (Refused r) = 4
 
 -- the verdict and the counts in the first places, of which so many are counted on
 abbrev pub counted : ℕ
-counted = 4
+counted = 5
 
 abbrev pub reported : List ℕ → Answer → List ℕ
-reported out a = set (set (set (set out 0 (verdictCode (a .outcome))) 1 (a .moves)) 2 (a .steps)) 3 (a .words)
+reported out a = set (set (set (set (set out 0 (verdictCode (a .outcome))) 1 (a .moves)) 2 (a .steps)) 3 (a .words)) 4 (a .evaluated)
 
 -- a call with the bytes s, the places start, the tape ws, the budget B and the places out: values and out afterwards, and
 -- the number

@@ -42,10 +42,11 @@ fn report(a: Answer, out: &mut [u64])
     out[1] = a.moves;
     out[2] = a.steps;
     out[3] = a.words;
+    out[4] = a.evaluated;
 }
 
-// A whole run: the refusal's number + 256 times its place, 0 where nothing is refused; out takes the verdict, moves, steps and
-// words. 255 where out has fewer than four places: then nothing is run.
+// A whole run: the refusal's number + 256 times its place, 0 where nothing is refused; out takes the verdict, moves, steps,
+// words and nodes evaluated. 255 where out has fewer than five places: then nothing is run.
 #[no_mangle]
 pub extern "C" fn wal_run(
     problem: &[u8],
@@ -56,7 +57,7 @@ pub extern "C" fn wal_run(
 ) -> u64
     ensures { λ r. ⌜ RunCode (now (problem .entry)) (now (values .entry)) (now (tape .entry)) budget (now (out .entry)) (now (values .exit)) (now (out .exit)) r ⌝ }
 {
-    if out.len() < 4 {
+    if out.len() < 5 {
         return TOO_SHORT;
     }
     let answer = search::run(problem, values, tape, budget);

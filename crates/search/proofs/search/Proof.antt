@@ -1,19 +1,29 @@
 -- `search::search` meets its contract.
+use mathlib.Core.Path.{ap, _∙_}
 use Prim.Native.Nat.{_-_}
 use native.Mathlib.Omega.{arith}
+use lib.ListN.{length}
+use Rattle.evaluation.specs.Problem.{problem}
+use Rattle.search.proofs.Runs.{Going, going-start, going-model, going-spent, going-draws, going-ended, going-fits, going-on}
 use borrow.Author.Needs.{needs}
-use Rattle.search.proofs.Runs.{Going, going-start, going-model, going-spent, going-ended, going-held, place-lt, assigned, going-moved}
 use Rattle.search.proofs.search.Statement.{statement}
 use Rattle.search.proofs.search.Tie as tie
 
 abbrev Inv-loop : tie.InvT-loop
-Inv-loop bytes los his values₀ tape budget most moves₀ steps₀ at₀ values moves steps at = Going bytes los his values₀ tape budget values moves steps at
+Inv-loop bytes los his slots values₀ tape budget most moves₀ steps₀ at₀ evaluated₀ values moves steps at evaluated = Going bytes los his slots values₀ tape budget values moves steps at evaluated
 
 abbrev μ-loop : tie.MeasureT-loop
-μ-loop bytes los his values₀ tape budget most moves₀ steps₀ at₀ values moves steps at = budget - moves
+μ-loop bytes los his slots values₀ tape budget most moves₀ steps₀ at₀ evaluated₀ values moves steps at evaluated = budget - moves
+
+node-count-requires : tie.Need-node-count-requires Inv-loop μ-loop
+node-count-requires c κs = search needs
+
+cast-evaluated : tie.Need-cast-evaluated Inv-loop μ-loop
+cast-evaluated c = search needs
 
 loop-holds : tie.Need-loop-holds Inv-loop μ-loop
-loop-holds c = going-start (c .before .before .before .pre)
+unfolding problem
+loop-holds c = let p = c .before .before .before .before .before .pre in going-start (p .0) (p .1) (c .node-count .ensures)
 
 count-unsatisfied-requires : tie.Need-count-unsatisfied-requires Inv-loop μ-loop
 count-unsatisfied-requires c κs = let w = c .before .loop .inv .searching in record { accepted = w .filled .accepted; held = w .held }
@@ -37,59 +47,37 @@ returns-2 : tie.Need-returns-2 Inv-loop μ-loop
 returns-2 c = rw (c .settled2 .ensures) (going-spent (c .before .before .before .before .before .loop .inv) (c .before .before .before .count-unsatisfied .ensures) (omega (arith, c .before .before .if1 .left)) (c .before .if2 .taken))
 
 add-more : tie.Need-add-more Inv-loop μ-loop
-add-more c = omega (arith, c .if2 .left, c .before .before .before .before .before .before .before .before .fits .budget)
+add-more c = omega (arith, c .if2 .left, c .before .before .before .before .before .before .before .before .before .before .fits .budget)
 
-make-move-requires : tie.Need-make-move-requires Inv-loop μ-loop
-make-move-requires c κs = let o = c .before .before .before .before .before .loop .inv in
-    (o .searching, c .before .before .before .count-unsatisfied .ensures, omega (arith, c .before .before .if1 .left), o .on-tape, omega (arith, o .words))
+finish-move-requires : tie.Need-finish-move-requires Inv-loop μ-loop
+finish-move-requires c κs = (going-draws (c .before .before .before .before .before .loop .inv) (c .before .before .before .count-unsatisfied .ensures) (omega (arith, c .before .before .if1 .left)), c .before .before .before .before .before .loop .inv .indexed)
 
-enum-known-stop : tie.Need-enum-known-stop Inv-loop μ-loop
-enum-known-stop c = search needs
-
-cast-values : tie.Need-cast-values Inv-loop μ-loop
-cast-values c = search needs
-
-mul-values : tie.Need-mul-values Inv-loop μ-loop
-mul-values c = let f = rw (c .before .stop .given .1) at (c .before .before .before .make-move .ensures) in
-    omega (arith, place-lt (c .before .before .before .before .before .before .before .before .before .loop .inv) (c .before .before .before .before .before .before .before .count-unsatisfied .ensures) (omega (arith, c .before .before .before .before .before .before .if1 .left)) (omega (arith, c .before .before .before .before .before .if2 .left)) (f .1) (f .0), c .before .before .before .before .before .before .before .before .before .loop .inv .long, c .before .before .before .before .before .before .before .before .before .before .before .before .before .good .1 .1 .1 .0)
-
-slice-write-values : tie.Need-slice-write-values Inv-loop μ-loop
-slice-write-values c = let f = rw (c .before .stop .given .1) at (c .before .before .before .make-move .ensures) in
-    place-lt (c .before .before .before .before .before .before .before .before .before .loop .inv) (c .before .before .before .before .before .before .before .count-unsatisfied .ensures) (omega (arith, c .before .before .before .before .before .before .if1 .left)) (omega (arith, c .before .before .before .before .before .if2 .left)) (f .1) (f .0)
-
-evaluate-requires : tie.Need-evaluate-requires Inv-loop μ-loop
-evaluate-requires c κs = let f = rw (c .before .before .stop .given .1) at (c .before .before .before .before .make-move .ensures) in
-    assigned (c .before .before .before .before .before .before .before .before .before .before .loop .inv) (c .before .before .before .before .before .before .before .before .count-unsatisfied .ensures) (omega (arith, c .before .before .before .before .before .before .before .if1 .left)) (omega (arith, c .before .before .before .before .before .before .if2 .left)) (f .1) (f .0)
-
-enum-known-stop-2 : tie.Need-enum-known-stop-2 Inv-loop μ-loop
-enum-known-stop-2 c = search needs
+enum-known-turn : tie.Need-enum-known-turn Inv-loop μ-loop
+enum-known-turn c = search needs
 
 enum-told : tie.Need-enum-told Inv-loop μ-loop
 enum-told c = search needs
 
 settled-requires-3 : tie.Need-settled-requires-3 Inv-loop μ-loop
-settled-requires-3 c κs = c .before .before .before .before .before .before .before .before .loop .inv .words
+settled-requires-3 c κs = c .before .before .before .before .before .before .before .before .before .before .loop .inv .words
 
 same-length-3 : tie.Need-same-length-3 Inv-loop μ-loop
-same-length-3 c = c .before .before .before .before .before .before .before .before .before .loop .inv .long
+same-length-3 c = let f = rw (c .before .enum-told .given .1) at (c .before .before .before .before .before .finish-move .ensures) in ap length (f .1) ∙ c .before .before .before .before .before .before .before .before .before .before .before .loop .inv .long
 
 returns-3 : tie.Need-returns-3 Inv-loop μ-loop
-returns-3 c = let f = rw (c .before .enum-told .given .1) at (c .before .before .before .make-move .ensures) in
-    rw (c .settled3 .ensures) (going-ended (c .before .before .before .before .before .before .before .before .before .loop .inv) (c .before .before .before .before .before .before .before .count-unsatisfied .ensures) (omega (arith, c .before .before .before .before .before .before .if1 .left)) (omega (arith, c .before .before .before .before .before .if2 .left)) (f .0))
+returns-3 c = let f = rw (c .before .enum-told .given .1) at (c .before .before .before .before .before .finish-move .ensures) in
+    rw (c .settled3 .ensures) (going-ended (c .before .before .before .before .before .before .before .before .before .before .before .loop .inv) (c .before .before .before .before .before .before .before .before .before .count-unsatisfied .ensures) (omega (arith, c .before .before .before .before .before .before .before .before .if1 .left)) (omega (arith, c .before .before .before .before .before .before .before .if2 .left)) f)
+
+add-evaluated : tie.Need-add-evaluated Inv-loop μ-loop
+add-evaluated c = let f = rw (c .before .turn .given .1) at (c .before .before .before .before .before .finish-move .ensures) in
+    omega (arith, going-fits (c .before .before .before .before .before .before .before .before .before .before .before .loop .inv) (c .before .before .before .before .before .before .before .before .before .count-unsatisfied .ensures) (omega (arith, c .before .before .before .before .before .before .before .before .if1 .left)) (omega (arith, c .before .before .before .before .before .before .before .if2 .left)) f (c .before .before .before .before .before .before .before .before .before .before .before .before .before .before .before .before .before .fits .budget .fits))
 
 loop-less : tie.Need-loop-less Inv-loop μ-loop
-loop-less c = omega (arith, c .before .before .before .before .before .before .before .before .before .if2 .left)
+loop-less c = omega (arith, c .before .before .before .before .before .before .before .if2 .left)
 
 loop-again : tie.Need-loop-again Inv-loop μ-loop
-loop-again c = let f = rw (c .before .before .before .before .before .stop .given .1) at (c .before .before .before .before .before .before .before .make-move .ensures) in
-    going-moved (c .before .before .before .before .before .before .before .before .before .before .before .before .before .loop .inv) (c .before .before .before .before .before .before .before .before .before .before .before .count-unsatisfied .ensures) (omega (arith, c .before .before .before .before .before .before .before .before .before .before .if1 .left)) (omega (arith, c .before .before .before .before .before .before .before .before .before .if2 .left)) (f .1) (f .0) (c .before .before .evaluate .ensures)
-
-loop-less-2 : tie.Need-loop-less-2 Inv-loop μ-loop
-loop-less-2 c = omega (arith, c .before .before .before .before .before .if2 .left)
-
-loop-again-2 : tie.Need-loop-again-2 Inv-loop μ-loop
-loop-again-2 c = let f = rw (c .before .stop2 .given .1) at (c .before .before .before .make-move .ensures) in
-    going-held (c .before .before .before .before .before .before .before .before .before .loop .inv) (c .before .before .before .before .before .before .before .count-unsatisfied .ensures) (omega (arith, c .before .before .before .before .before .before .if1 .left)) (omega (arith, c .before .before .before .before .before .if2 .left)) (f .1) (f .0)
+loop-again c = let f = rw (c .before .turn .given .1) at (c .before .before .before .before .before .finish-move .ensures) in
+    going-on (c .before .before .before .before .before .before .before .before .before .before .before .loop .inv) (c .before .before .before .before .before .before .before .before .before .count-unsatisfied .ensures) (omega (arith, c .before .before .before .before .before .before .before .before .if1 .left)) (omega (arith, c .before .before .before .before .before .before .before .if2 .left)) f
 
 pub search-spec : {M : Type 1} → statement M
 search-spec =
@@ -97,6 +85,8 @@ search-spec =
     (tie.spec
     Inv-loop
     μ-loop
+    node-count-requires
+    cast-evaluated
     loop-holds
     count-unsatisfied-requires
     settled-requires
@@ -106,18 +96,12 @@ search-spec =
     same-length-2
     returns-2
     add-more
-    make-move-requires
-    enum-known-stop
-    cast-values
-    mul-values
-    slice-write-values
-    evaluate-requires
-    enum-known-stop-2
+    finish-move-requires
+    enum-known-turn
     enum-told
     settled-requires-3
     same-length-3
     returns-3
+    add-evaluated
     loop-less
-    loop-again
-    loop-less-2
-    loop-again-2)
+    loop-again)

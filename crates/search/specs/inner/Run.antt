@@ -1,11 +1,11 @@
 -- What the inner functions of the run ask and answer, in terms of the definitions. (Not needed to read what the run promises.)
 use Prim.Native.Nat.{ℕ, zero, suc, _+_, _*_, _^_, _≤_, _<_}
 use Rattle.words.specs.Agree.{Agrees}
-use Rattle.evaluation.specs.Problem.{Prob, pairLo, pairHi, problem}
+use Rattle.evaluation.specs.Problem.{Prob, pairLo, pairHi, problem, evaluate}
 use mathlib.Core.Path.{_≡_}
 use mathlib.Core.Bool.{Bool, true, false}
 use mathlib.Core.List.{List, [], _∷_, _++_}
-use lib.ListN.{length, getD, drop}
+use lib.ListN.{length, getD, set, drop}
 use Rattle.words.specs.declared.found.Found.{Found}
 use Rattle.words.specs.declared.found.Found.the-variants.{At, Nothing}
 use Rattle.problem.specs.declared.Checked.the-variants.{Accepted}
@@ -16,9 +16,13 @@ use Rattle.picking.specs.Spot.{at, positions, Fair}
 use Rattle.picking.specs.inner.Marks.{marked}
 use Rattle.search.specs.declared.moves.Stop.{Stop}
 use Rattle.search.specs.declared.moves.Stop.the-variants.{Sets, Stuck, Short}
-use Rattle.evaluation.specs.Lists.{Lists}
+use Rattle.search.specs.declared.moves.Turn.{Turn}
+use Rattle.search.specs.declared.moves.Turn.the-variants.{Finished, Unfinished}
+use Rattle.search.specs.declared.Answer.{Answer}
+use Rattle.evaluation.specs.Readers.{Above}
+use Rattle.evaluation.specs.inner.Lists.{Count}
 use Rattle.search.specs.Step.{Out, goes, blocked}
-use Rattle.search.specs.Run.{End, sets, stuck, short, ClosedRoot}
+use Rattle.search.specs.Run.{End, sets, stuck, short, ClosedRoot, Unsatisfied, Move, Run}
 use Rattle.evaluation.specs.inner.Good.{Held}
 use Rattle.evaluation.specs.laws.Height.{Height}
 use Rattle.evaluation.specs.inner.Evaluation.{Filled}
@@ -103,11 +107,23 @@ pub record Walking (s los his vs tape : List ℕ) (n start made : ℕ) : Type 0 
   pub on-tape : start ≤ length tape
   pub made-le : made ≤ start
 
--- a set has r members below n
-pub record Count (A : ℕ → Type 0) (n r : ℕ) : Type 0 where
-  pub list : List ℕ
-  pub lists : Lists A n list
-  pub is : length list ≡ r
+-- a move: so many root entries are not satisfied, of which one is drawn at place k of the tape, after so many steps
+pub record Drawing (s los his vs tape : List ℕ) (count k made : ℕ) : Type 0 where
+  pub searching : Searching s los his vs
+  pub counted : Count (Unsatisfied (problem s) vs) (problem s .entries) count
+  pub some : 0 < count
+  pub on-tape : k ≤ length tape
+  pub made-le : made ≤ k
+
+-- a finished move, which sets a variable or none: the values us afterwards, the number r of nodes evaluated, the steps t made so
+-- far and the next place l
+pub data Finishes (P : Prob) (vs tape : List ℕ) (k made : ℕ) (us : List ℕ) (r t l : ℕ) : Type 0 where
+  sets-one : {n v : ℕ} → Move P vs (drop k tape) made (sets n v t (drop l tape)) → us ≡ evaluate P (set vs n v) → Count (Above P n) (P .nodes) r → Finishes P vs tape k made us r t l
+  sets-none : Move P vs (drop k tape) made (stuck t (drop l tape)) → us ≡ vs → r ≡ 0 → Finishes P vs tape k made us r t l
+
+abbrev pub Turned : Prob → List ℕ → List ℕ → ℕ → ℕ → List ℕ → Turn → Type 0
+Turned P vs tape k made us (Finished r t l) = Finishes P vs tape k made us r t l × (l ≤ length tape) × (l + 2 * made ≡ k + 1 + 2 * t)
+Turned P vs tape k made us Unfinished = Move P vs (drop k tape) made short × (us ≡ vs)
 
 -- j is a member below n, and k members are below it
 pub record Nth (A : ℕ → Type 0) (n k j : ℕ) : Type 0 where
@@ -121,3 +137,9 @@ pub record Nth (A : ℕ → Type 0) (n k j : ℕ) : Type 0 where
 pub record Lent (s vs : List ℕ) : Type 0 where
   pub accepted : checked s ≡ Accepted
   pub places : nodeCount s ≤ length vs
+
+-- ---- lib.rt
+
+-- the search from values at which all nodes were evaluated: the values and the answer at its end
+abbrev pub Searched : List ℕ → List ℕ → List ℕ → ℕ → List ℕ → Answer → Type 0
+Searched s vs ws B out a = Run (problem s) B vs ws 0 0 (problem s .nodes) out a

@@ -19,6 +19,8 @@ use Rattle.evaluation.specs.Height.{Longest}
 use Rattle.evaluation.specs.inner.Good.{Good, Held}
 use Rattle.evaluation.specs.laws.Decide.{dec-not, Some, all-or-some, Listed, listed, Stands, lists-find, Member, lists-member}
 use Rattle.evaluation.specs.laws.Values.{evaluate-variable, evaluated-same}
+use Rattle.evaluation.specs.Readers.{Above}
+use Rattle.evaluation.specs.laws.Above.{above-listed}
 use Rattle.evaluation.specs.laws.Pairs.{all-agree, every-node}
 use Rattle.search.specs.laws.Moves.{Lands}
 use Rattle.search.specs.laws.Runs.{kept-start, kept-after, closed-none}
@@ -43,7 +45,8 @@ pub record Leads (Ends : List ℕ → List ℕ → Answer → Type 0) (most limi
   pub moves : ℕ
   pub moves-le : moves ≤ limit
   pub steps : ℕ
-  pub ends : (rest : List ℕ) → Ends (words ++ rest) out (answer moves steps Verdict.Model)
+  pub evaluated : ℕ
+  pub ends : (rest : List ℕ) → Ends (words ++ rest) out (answer moves steps evaluated Verdict.Model)
 
 pub leads-on :
     {E F : List ℕ → List ℕ → Answer → Type 0} {most limit : ℕ}
@@ -59,6 +62,7 @@ leads-on f l =
       moves = l .moves;
       moves-le = l .moves-le;
       steps = l .steps;
+      evaluated = l .evaluated;
       ends = λ rest. f _ _ _ (l .ends rest);
     }
 
@@ -132,12 +136,12 @@ module _ (P : Prob) (g : Good P) (H : ℕ) (top : Longest P H) (us : List ℕ) (
       ∙ sol .all-one j l
 
   module _ (B : ℕ) where
-    -- the words that lead from vs, after m moves and s steps, to a model within d moves more
-    abbrev Reached : List ℕ → ℕ → ℕ → ℕ → Type 0
-    Reached vs m s d = Leads (λ ws out a. Run P B vs ws m s out a) (d * (1 + 2 * H)) (m + d)
+    -- the words that lead from vs, after m moves and s steps with e nodes evaluated, to a model within d moves more
+    abbrev Reached : List ℕ → ℕ → ℕ → ℕ → ℕ → Type 0
+    Reached vs m s e d = Leads (λ ws out a. Run P B vs ws m s e out a) (d * (1 + 2 * H)) (m + d)
 
-    reached-here : (vs : List ℕ) (m s d : ℕ) → AllOne P vs → Reached vs m s d
-    reached-here vs m s d y =
+    reached-here : (vs : List ℕ) (m s e d : ℕ) → AllOne P vs → Reached vs m s e d
+    reached-here vs m s e d y =
         record {
           words = [];
           few = omega arith;
@@ -146,17 +150,19 @@ module _ (P : Prob) (g : Good P) (H : ℕ) (top : Longest P H) (us : List ℕ) (
           moves = m;
           moves-le = omega arith;
           steps = s;
+          evaluated = e;
           ends = λ rest. model y;
         }
 
     reached-onward :
-        (vs : List ℕ) (m s d : ℕ)
+        (vs : List ℕ) (m s e d : ℕ)
         → (AllOne P vs → ⊥)
         → m < B
         → (mv : LedMove vs s)
-        → Reached (evaluate P (set vs (mv .var) (getD us (mv .var) 0))) (m + 1) (mv .steps) d
-        → Reached vs m s (suc d)
-    reached-onward vs m s d x b mv r =
+        → (u : Listed (Above P (mv .var)) (P .nodes))
+        → Reached (evaluate P (set vs (mv .var) (getD us (mv .var) 0))) (m + 1) (mv .steps) (e + length (u .list)) d
+        → Reached vs m s e (suc d)
+    reached-onward vs m s e d x b mv u r =
         record {
           words = mv .words ++ r .words;
           few = omega (arith, length-append (mv .words) (r .words), mv .few, r .few, suc-mul d (1 + 2 * H));
@@ -165,18 +171,20 @@ module _ (P : Prob) (g : Good P) (H : ℕ) (top : Longest P H) (us : List ℕ) (
           moves = r .moves;
           moves-le = omega (arith, r .moves-le);
           steps = r .steps;
-          ends = λ rest. rw append-assoc (moved x b (mv .move (r .words ++ rest)) (r .ends rest));
+          evaluated = r .evaluated;
+          ends = λ rest. rw append-assoc (moved x b (mv .move (r .words ++ rest)) (u .lists) (r .ends rest));
         }
 
-    reach : (d : ℕ) (vs : List ℕ) (m s : ℕ) → Held P vs → apart P vs us (P .nodes) ≤ d → m + d ≤ B → Reached vs m s d
-    reach zero vs m s h a b = reached-here vs m s 0 (none-apart vs h (omega arith))
-    reach (suc d) vs m s h a b =
+    reach : (d : ℕ) (vs : List ℕ) (m s e : ℕ) → Held P vs → apart P vs us (P .nodes) ≤ d → m + d ≤ B → Reached vs m s e d
+    reach zero vs m s e h a b = reached-here vs m s e 0 (none-apart vs h (omega arith))
+    reach (suc d) vs m s e h a b =
         elim (all-or-some (λ j. getD vs (P .root j) 0 ≡ 1) (P .entries) (λ j _. ℕ-discrete (getD vs (P .root j) 0) 1)) [
-          | inl y ↦ reached-here vs m s (suc d) y
+          | inl y ↦ reached-here vs m s e (suc d) y
           | inr u ↦
               let mv : LedMove vs s = lead-move vs s h u in
-              reached-onward vs m s d (λ y. u .holds (y (u .at) (u .at-lt))) (omega arith) mv
-              (reach d (evaluate P (set vs (mv .var) (getD us (mv .var) 0))) (m + 1) (mv .steps)
+              let up : Listed (Above P (mv .var)) (P .nodes) = above-listed P g (mv .var) in
+              reached-onward vs m s e d (λ y. u .holds (y (u .at) (u .at-lt))) (omega arith) mv up
+              (reach d (evaluate P (set vs (mv .var) (getD us (mv .var) 0))) (m + 1) (mv .steps) (e + length (up .list))
               (kept-after P g vs h (mv .var) (getD us (mv .var) 0) (mv .lands) .values)
               (omega (arith, after-less vs h (mv .var) (mv .lands) (mv .differs)))
               (omega arith))
@@ -194,4 +202,4 @@ module _ (P : Prob) (g : Good P) (H : ℕ) (top : Longest P H) (us : List ℕ) (
         let le : apart P (evaluate P start) us (P .nodes) ≤ apart P start us (P .nodes) =
         apart-le P start (evaluate P start) us (P .nodes) (λ m k v. inl (evaluate-variable P start m (omega arith) v)) in
         leads-on (λ ws out a r. searched (λ c. closed-none P g us solved c (sol .all-one)) r)
-        (rw zero-add at (reach d (evaluate P start) 0 0 (kept-start P g start room va .values) (omega arith) (omega arith)))
+        (rw zero-add at (reach d (evaluate P start) 0 0 (P .nodes) (kept-start P g start room va .values) (omega arith) (omega arith)))

@@ -11,6 +11,7 @@ use Rattle.search.specs.declared.Answer.{Answer}
 use Rattle.search.specs.Answers.{said}
 use Rattle.evaluation.specs.Problem.{Prob, problem, evaluate, arg, spot, Variable}
 use Rattle.evaluation.specs.Lists.{Lists}
+use Rattle.evaluation.specs.laws.Lists.{lists-unique}
 use Rattle.search.specs.Step.{Step, goes, blocked}
 use Rattle.search.specs.Run.{End, sets, stuck, short, Walk, Walk.arrives, Walk.unserved, Walk.stops, Walk.onward, Unsatisfied, Move, Move.no-word, Move.from-root, ClosedRoot, answer, Run, Run.model, Run.spent, Run.ended, Run.moved, Run.held, Whole, Whole.closed, Whole.searched}
 use Rattle.search.specs.Call.{refusals, Called, Called.refuses, Called.runs}
@@ -112,24 +113,24 @@ module _ (P : Prob) (vs : List ℕ) where
 
 module _ (P : Prob) (B B′ : ℕ) (more : B ≤ B′) where
   -- it passes through where the first one ended, having read the words that the answer counts
-  record Retraced (vs ws : List ℕ) (m s : ℕ) (out : List ℕ) (a : Answer) : Type 0 where
+  record Retraced (vs ws : List ℕ) (m s e : ℕ) (out : List ℕ) (a : Answer) : Type 0 where
     left : List ℕ
-    begun : Begun (λ tape rest. Passes P B′ vs tape m s out rest (a .moves) (a .steps)) ws left
+    begun : Begun (λ tape rest. Passes P B′ vs tape m s e out rest (a .moves) (a .steps) (a .evaluated)) ws left
     count : m + 2 * s + length (begun .used) ≡ a .words
 
-  retraced-here : (vs ws : List ℕ) (m s : ℕ) (v : Verdict) → Retraced vs ws m s vs (answer m s v)
-  retraced-here vs ws m s v =
+  retraced-here : (vs ws : List ℕ) (m s e : ℕ) (v : Verdict) → Retraced vs ws m s e vs (answer m s e v)
+  retraced-here vs ws m s e v =
       record { left = ws; begun = record { used = []; is = refl; again = λ rest. here }; count = omega arith }
 
   -- after a move more
   retraced-on :
-      {M : List ℕ → List ℕ → Type 0} {vs vs₁ ws ws₁ : List ℕ} {m s s₁ : ℕ} {out : List ℕ} {a : Answer}
+      {M : List ℕ → List ℕ → Type 0} {vs vs₁ ws ws₁ : List ℕ} {m s e s₁ e₁ : ℕ} {out : List ℕ} {a : Answer}
       → 1 + length ws₁ + 2 * s₁ ≡ length ws + 2 * s
       → Begun M ws ws₁
-      → ((tape rest rest′ : List ℕ) → M tape rest → Passes P B′ vs₁ rest (m + 1) s₁ out rest′ (a .moves) (a .steps) → Passes P B′ vs tape m s out rest′ (a .moves) (a .steps))
-      → Retraced vs₁ ws₁ (m + 1) s₁ out a
-      → Retraced vs ws m s out a
-  retraced-on {ws = ws} {ws₁ = ws₁} e b f r =
+      → ((tape rest rest′ : List ℕ) → M tape rest → Passes P B′ vs₁ rest (m + 1) s₁ e₁ out rest′ (a .moves) (a .steps) (a .evaluated) → Passes P B′ vs tape m s e out rest′ (a .moves) (a .steps) (a .evaluated))
+      → Retraced vs₁ ws₁ (m + 1) s₁ e₁ out a
+      → Retraced vs ws m s e out a
+  retraced-on {ws = ws} {ws₁ = ws₁} q b f r =
       let u : List ℕ = r .begun .used in
       record {
         left = r .left;
@@ -140,7 +141,7 @@ module _ (P : Prob) (B B′ : ℕ) (more : B ≤ B′) where
         };
         count = omega (
           arith,
-          e,
+          q,
           r .count,
           length-append (b .used) u,
           ap length (b .is),
@@ -148,54 +149,55 @@ module _ (P : Prob) (B B′ : ℕ) (more : B ≤ B′) where
         );
       }
 
-  retrace : {vs ws : List ℕ} {m s : ℕ} {out : List ℕ} {a : Answer} → Run P B vs ws m s out a → Retraced vs ws m s out a
-  retrace {vs} {ws} {m} {s} (model y) = retraced-here vs ws m s Verdict.Model
-  retrace {vs} {ws} {m} {s} (spent x b) = retraced-here vs ws m s Verdict.Spent
-  retrace {vs} {ws} {m} {s} (ended x b k) = retraced-here vs ws m s Verdict.Ended
-  retrace {vs} (moved x b k r) = retraced-on (move-spends P vs k) (move-again P vs k) (λ tape rest rest′ k p. after-set x (omega arith) k p) (retrace r)
+  retrace : {vs ws : List ℕ} {m s e : ℕ} {out : List ℕ} {a : Answer} → Run P B vs ws m s e out a → Retraced vs ws m s e out a
+  retrace {vs} {ws} {m} {s} {e} (model y) = retraced-here vs ws m s e Verdict.Model
+  retrace {vs} {ws} {m} {s} {e} (spent x b) = retraced-here vs ws m s e Verdict.Spent
+  retrace {vs} {ws} {m} {s} {e} (ended x b k) = retraced-here vs ws m s e Verdict.Ended
+  retrace {vs} (moved x b k u r) = retraced-on (move-spends P vs k) (move-again P vs k) (λ tape rest rest′ k p. after-set x (omega arith) k u p) (retrace r)
   retrace {vs} (held x b k r) = retraced-on (move-spends P vs k) (move-again P vs k) (λ tape rest rest′ k p. after-held x (omega arith) k p) (retrace r)
 
 -- ---- a run cut open is a run
 
 module _ (P : Prob) (B : ℕ) where
   passes-run :
-      {vs ws vs′ ws′ out : List ℕ} {m s m′ s′ : ℕ} {a : Answer}
-      → Passes P B vs ws m s vs′ ws′ m′ s′
-      → Run P B vs′ ws′ m′ s′ out a
-      → Run P B vs ws m s out a
+      {vs ws vs′ ws′ out : List ℕ} {m s e m′ s′ e′ : ℕ} {a : Answer}
+      → Passes P B vs ws m s e vs′ ws′ m′ s′ e′
+      → Run P B vs′ ws′ m′ s′ e′ out a
+      → Run P B vs ws m s e out a
   passes-run here r = r
-  passes-run (after-set x b k p) r = moved x b k (passes-run p r)
+  passes-run (after-set x b k u p) r = moved x b k u (passes-run p r)
   passes-run (after-held x b k p) r = held x b k (passes-run p r)
 
   -- what it comes to, it comes to from there
   passes-onward :
-      {vs ws vs′ ws′ out : List ℕ} {m s m′ s′ : ℕ} {a : Answer}
-      → Passes P B vs ws m s vs′ ws′ m′ s′
-      → Run P B vs ws m s out a
-      → Run P B vs′ ws′ m′ s′ out a
+      {vs ws vs′ ws′ out : List ℕ} {m s e m′ s′ e′ : ℕ} {a : Answer}
+      → Passes P B vs ws m s e vs′ ws′ m′ s′ e′
+      → Run P B vs ws m s e out a
+      → Run P B vs′ ws′ m′ s′ e′ out a
   passes-onward here r = r
-  passes-onward (after-set x b k p) (model y) = absurd (x y)
-  passes-onward (after-set x b k p) (spent x′ b′) = absurd (omega arith)
-  passes-onward (after-set x b k p) (ended x′ b′ k′) = absurd (two-ends P B k k′ (omega arith))
-  passes-onward {vs} (after-set {ws₁ = ws₁} {s₁ = s₁} {n = n} {v = v} x b k p) (moved {ws′ = ws₂} {s′ = s₂} {n = n′} {v = v′} x′ b′ k′ r′) =
+  passes-onward (after-set x b k u p) (model y) = absurd (x y)
+  passes-onward (after-set x b k u p) (spent x′ b′) = absurd (omega arith)
+  passes-onward (after-set x b k u p) (ended x′ b′ k′) = absurd (two-ends P B k k′ (omega arith))
+  passes-onward {vs} (after-set {ws₁ = ws₁} {us = us₁} {s₁ = s₁} {n = n} {v = v} x b k u p) (moved {ws′ = ws₂} {us = us₂} {s′ = s₂} {n = n′} {v = v′} x′ b′ k′ u′ r′) =
       let e : sets n v s₁ ws₁ ≡ sets n′ v′ s₂ ws₂ = move-unique P vs k k′ in
       let e₁ : n ≡ n′ = cc in
       let e₂ : v ≡ v′ = cc in
       let e₃ : s₁ ≡ s₂ = cc in
       let e₄ : ws₁ ≡ ws₂ = cc in
-      passes-onward p (rw (e₁, e₂, e₃, e₄) r′)
-  passes-onward (after-set x b k p) (held x′ b′ k′ r′) = absurd (two-ends P B k k′ (omega arith))
+      let e₅ : us₁ ≡ us₂ = lists-unique u (rw e₁ u′) in
+      passes-onward p (rw (e₁, e₂, e₃, e₄, e₅) r′)
+  passes-onward (after-set x b k u p) (held x′ b′ k′ r′) = absurd (two-ends P B k k′ (omega arith))
   passes-onward (after-held x b k p) (model y) = absurd (x y)
   passes-onward (after-held x b k p) (spent x′ b′) = absurd (omega arith)
   passes-onward (after-held x b k p) (ended x′ b′ k′) = absurd (two-ends P B k k′ (omega arith))
-  passes-onward (after-held x b k p) (moved x′ b′ k′ r′) = absurd (two-ends P B k k′ (omega arith))
+  passes-onward (after-held x b k p) (moved x′ b′ k′ u′ r′) = absurd (two-ends P B k k′ (omega arith))
   passes-onward {vs} (after-held {ws₁ = ws₁} {s₁ = s₁} x b k p) (held {ws′ = ws₂} {s′ = s₂} x′ b′ k′ r′) =
       let e : stuck s₁ ws₁ ≡ stuck s₂ ws₂ = move-unique P vs k k′ in
       let e₃ : s₁ ≡ s₂ = cc in
       let e₄ : ws₁ ≡ ws₂ = cc in
       passes-onward p (rw (e₃, e₄) r′)
 
-whole-run : {P : Prob} {B : ℕ} {start ws out : List ℕ} {a : Answer} → (ClosedRoot P → ⊥) → Whole P B start ws out a → Run P B (evaluate P start) ws 0 0 out a
+whole-run : {P : Prob} {B : ℕ} {start ws out : List ℕ} {a : Answer} → (ClosedRoot P → ⊥) → Whole P B start ws out a → Run P B (evaluate P start) ws 0 0 (P .nodes) out a
 whole-run x (closed c) = absurd (x c)
 whole-run x (searched c r) = r
 
@@ -204,7 +206,7 @@ called-run :
     → refusals s start ≡ Accepted
     → (ClosedRoot (problem s) → ⊥)
     → Called s start ws B out a
-    → Run (problem s) B (evaluate (problem s) start) ws 0 0 out a
+    → Run (problem s) B (evaluate (problem s) start) ws 0 0 (problem s .nodes) out a
 called-run e x (refuses r e′) = absurd (not-both e e′)
 called-run e x (runs e′ w) = whole-run x w
 
@@ -225,14 +227,14 @@ pub go-through :
     {s start ws ws′ : List ℕ} {B B′ : ℕ} {out : List ℕ} {a : Answer}
     → refusals s start ≡ Accepted
     → (ClosedRoot (problem s) → ⊥)
-    → Run (problem s) B (evaluate (problem s) start) ws 0 0 out a
+    → Run (problem s) B (evaluate (problem s) start) ws 0 0 (problem s .nodes) out a
     → Longer ws B a ws′ B′
     → Through s start ws′ B′ out a
 go-through {s} {start} {ws} {ws′} {B} {B′} {out} {a} e x r l =
     let t = retrace (problem s) B B′ (l .budget) r in
     let same : t .begun .used ++ drop (a .words) ws′ ≡ ws′ = begins-used (a .words) (t .begun .used) (t .left) (omega (arith, t .count)) (t .begun .is) (l .begins) in
-    let p : Passes (problem s) B′ (evaluate (problem s) start) ws′ 0 0 out (drop (a .words) ws′) (a .moves) (a .steps) =
-    subst (λ (tape : List ℕ). Passes (problem s) B′ (evaluate (problem s) start) tape 0 0 out (drop (a .words) ws′) (a .moves) (a .steps)) same
+    let p : Passes (problem s) B′ (evaluate (problem s) start) ws′ 0 0 (problem s .nodes) out (drop (a .words) ws′) (a .moves) (a .steps) (a .evaluated) =
+    subst (λ (tape : List ℕ). Passes (problem s) B′ (evaluate (problem s) start) tape 0 0 (problem s .nodes) out (drop (a .words) ws′) (a .moves) (a .steps) (a .evaluated)) same
     (t .begun .again (drop (a .words) ws′)) in
     record {
       accepted = e;
@@ -248,16 +250,16 @@ pub model-on :
     {s start ws ws′ : List ℕ} {B B′ : ℕ} {out : List ℕ} {a : Answer}
     → refusals s start ≡ Accepted
     → (ClosedRoot (problem s) → ⊥)
-    → Run (problem s) B (evaluate (problem s) start) ws 0 0 out a
+    → Run (problem s) B (evaluate (problem s) start) ws 0 0 (problem s .nodes) out a
     → said (a .outcome) ≡ "model"
     → Longer ws B a ws′ B′
     → Called s start ws′ B′ out a
 model-on {s} {start} {ws} {ws′} {B} {B′} {out} {a} e x r q l =
     let c = run-concluded (problem s) B r in
     let v : c .verdict ≡ Verdict.Model = same-name (c .verdict) Verdict.Model (sym (ap said (c .settled)) ∙ q) in
-    let is : answer (a .moves) (a .steps) Verdict.Model ≡ a = rw (← c .counts, ← v, ← c .settled) in
+    let is : answer (a .moves) (a .steps) (a .evaluated) Verdict.Model ≡ a = rw (← c .counts, ← v, ← c .settled) in
     let t : Through s start ws′ B′ out a = go-through e x r l in
     runs e
     (searched x
     (passes-run (problem s) B′ (t .passes)
-    (subst (λ (a′ : Answer). Run (problem s) B′ out (drop (a .words) ws′) (a .moves) (a .steps) out a′) is (model (c .model .0 v)))))
+    (subst (λ (a′ : Answer). Run (problem s) B′ out (drop (a .words) ws′) (a .moves) (a .steps) (a .evaluated) out a′) is (model (c .model .0 v)))))

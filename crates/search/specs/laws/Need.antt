@@ -160,8 +160,8 @@ left-enough d H k s s′ left left′ h e c f = omega (arith, suc-mul d (1 + 2 *
 
 module _ (P : Prob) (g : Good P) (H : ℕ) (top : Longest P H) (open-roots : ClosedRoot P → ⊥) (B : ℕ) where
   pub run-served :
-      {vs ws : List ℕ} {m s : ℕ} {out : List ℕ} {a : Answer}
-      → Run P B vs ws m s out a
+      {vs ws : List ℕ} {m s made : ℕ} {out : List ℕ} {a : Answer}
+      → Run P B vs ws m s made out a
       → Held P vs
       → (d : ℕ)
       → B ≤ m + d
@@ -173,8 +173,8 @@ module _ (P : Prob) (g : Good P) (H : ℕ) (top : Longest P H) (open-roots : Clo
   run-served (ended x b′ k) hd zero b e q = omega arith
   run-served {vs} (ended x b′ k) hd (suc d) b e q =
       move-few P g vs (hd .evaluated) open-roots top x k .served (omega (arith, suc-mul d (1 + 2 * H)))
-  run-served (moved x b′ k r) hd zero b e q = omega arith
-  run-served {vs} {ws} {m} {s} (moved {ws′ = ws′} {s′ = s′} {n = n} {v = v} x b′ k r) hd (suc d) b e q =
+  run-served (moved x b′ k u r) hd zero b e q = omega arith
+  run-served {vs} {ws} {m} {s} (moved {ws′ = ws′} {s′ = s′} {n = n} {v = v} x b′ k u r) hd (suc d) b e q =
       let f = move-few P g vs (hd .evaluated) open-roots top x k in
       run-served r (kept-after P g vs hd n v (move-lands P g vs open-roots x k) .values) d (omega arith)
       (left-enough d H (stepsOf k) s s′ (length ws) (length ws′) e (move-spends P vs k) (f .counted) (f .few)) q

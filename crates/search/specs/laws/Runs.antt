@@ -20,7 +20,7 @@ use Rattle.search.specs.declared.Outcome.{Outcome}
 use Rattle.search.specs.declared.Answer.{Answer}
 use Rattle.search.specs.Answers.{name, said}
 use Rattle.evaluation.specs.Problem.{Prob, evaluate}
-use Rattle.search.specs.Run.{AllOne, ClosedRoot, Run, Run.model, Run.spent, Run.ended, Run.moved, Run.held, Whole, Whole.closed, Whole.searched}
+use Rattle.search.specs.Run.{AllOne, ClosedRoot, answer, Run, Run.model, Run.spent, Run.ended, Run.moved, Run.held, Whole, Whole.closed, Whole.searched}
 use Rattle.evaluation.specs.Values.{VariablesAgree, NodesAgree}
 use Rattle.evaluation.specs.inner.Good.{Good, Held}
 use Rattle.evaluation.specs.laws.Values.{length-evaluate, evaluate-above, held-evaluate}
@@ -73,15 +73,15 @@ module _ (P : Prob) (g : Good P) where
         }
 
   pub run-kept :
-      {B : ℕ} {vs ws : List ℕ} {m s : ℕ} {out : List ℕ} {a : Answer}
+      {B : ℕ} {vs ws : List ℕ} {m s e : ℕ} {out : List ℕ} {a : Answer}
       → (ClosedRoot P → ⊥)
-      → Run P B vs ws m s out a
+      → Run P B vs ws m s e out a
       → Held P vs
       → Kept vs out
   run-kept {vs = vs} c (model y) h = kept-self vs h
   run-kept {vs = vs} c (spent x b) h = kept-self vs h
   run-kept {vs = vs} c (ended x b k) h = kept-self vs h
-  run-kept {vs = vs} c (moved {n = n} {v = v} x b k r) h =
+  run-kept {vs = vs} c (moved {n = n} {v = v} x b k u r) h =
       let e = kept-after vs h n v (move-lands P g vs c x k) in kept-on e (run-kept c r (e .values))
   run-kept c (held x b k r) h = run-kept c r h
 
@@ -124,18 +124,18 @@ abbrev searches : String → Bool
 searches x = eqt x "model" || eqt x "spent" || eqt x "ended"
 
 run-says :
-    {P : Prob} {B : ℕ} {vs ws : List ℕ} {m s : ℕ} {out : List ℕ} {a : Answer}
-    → Run P B vs ws m s out a
+    {P : Prob} {B : ℕ} {vs ws : List ℕ} {m s e : ℕ} {out : List ℕ} {a : Answer}
+    → Run P B vs ws m s e out a
     → T (searches (said (a .outcome)))
 run-says (model y) = tt
 run-says (spent x b) = tt
 run-says (ended x b k) = tt
-run-says (moved x b k r) = run-says r
+run-says (moved x b k u r) = run-says r
 run-says (held x b k r) = run-says r
 
 pub says-other :
-    {P : Prob} {B : ℕ} {vs ws : List ℕ} {m s : ℕ} {out : List ℕ} {a : Answer} {x : String}
-    → Run P B vs ws m s out a
+    {P : Prob} {B : ℕ} {vs ws : List ℕ} {m s e : ℕ} {out : List ℕ} {a : Answer} {x : String}
+    → Run P B vs ws m s e out a
     → said (a .outcome) ≡ x
     → T (searches x)
 says-other r q = subst (λ (x : String). T (searches x)) q (run-says r)
@@ -177,12 +177,12 @@ pub record Concluded (P : Prob) (B m s left : ℕ) (out : List ℕ) (a : Answer)
 
 module _ (P : Prob) (B : ℕ) where
   concluded-here :
-      (m s left : ℕ) (out : List ℕ) (v : Verdict)
+      (m s e left : ℕ) (out : List ℕ) (v : Verdict)
       → (v ≡ Verdict.Model) ↔ AllOne P out
       → Leaves B m v
-      → Concluded P B m s left out (record { moves = m; steps = s; words = m + 2 * s; outcome = Outcome.Settled v })
-  concluded-here m s left out v e l =
-      record { verdict = v; settled = refl; model = e; counts = refl; leaves = l; budget = λ h. h; tape = omega arith }
+      → Concluded P B m s left out (answer m s e v)
+  concluded-here m s e left out v q l =
+      record { verdict = v; settled = refl; model = q; counts = refl; leaves = l; budget = λ h. h; tape = omega arith }
 
   -- after a move more
   concluded-on :
@@ -203,13 +203,13 @@ module _ (P : Prob) (B : ℕ) where
       }
 
   pub run-concluded :
-      {vs ws : List ℕ} {m s : ℕ} {out : List ℕ} {a : Answer}
-      → Run P B vs ws m s out a
+      {vs ws : List ℕ} {m s e : ℕ} {out : List ℕ} {a : Answer}
+      → Run P B vs ws m s e out a
       → Concluded P B m s (length ws) out a
-  run-concluded {vs} {ws} {m} {s} (model y) = concluded-here m s (length ws) vs Verdict.Model (λ _. y, λ _. refl) tt
-  run-concluded {vs} {ws} {m} {s} (spent x b) = concluded-here m s (length ws) vs Verdict.Spent (not-model Verdict.Spent (omega arith) x) b
-  run-concluded {vs} {ws} {m} {s} (ended x b k) = concluded-here m s (length ws) vs Verdict.Ended (not-model Verdict.Ended (omega arith) x) b
-  run-concluded {vs} {ws} {m} {s} (moved {ws′ = ws′} {s′ = s′} x b k r) =
+  run-concluded {vs} {ws} {m} {s} {e} (model y) = concluded-here m s e (length ws) vs Verdict.Model (λ _. y, λ _. refl) tt
+  run-concluded {vs} {ws} {m} {s} {e} (spent x b) = concluded-here m s e (length ws) vs Verdict.Spent (not-model Verdict.Spent (omega arith) x) b
+  run-concluded {vs} {ws} {m} {s} {e} (ended x b k) = concluded-here m s e (length ws) vs Verdict.Ended (not-model Verdict.Ended (omega arith) x) b
+  run-concluded {vs} {ws} {m} {s} (moved {ws′ = ws′} {s′ = s′} x b k u r) =
       concluded-on m s s′ ws ws′ b (move-spends P vs k) (run-concluded r)
   run-concluded {vs} {ws} {m} {s} (held {ws′ = ws′} {s′ = s′} x b k r) =
       concluded-on m s s′ ws ws′ b (move-spends P vs k) (run-concluded r)
@@ -232,7 +232,7 @@ pub whole-concluded :
     → VariablesAgree P start
     → Concluded P B 0 0 (length ws) out a
 whole-concluded P g B {start} {ws} (closed c) room va =
-    concluded-here P B 0 0 (length ws) (evaluate P start) Verdict.Closed
+    concluded-here P B 0 0 (P .nodes) (length ws) (evaluate P start) Verdict.Closed
     (not-model Verdict.Closed (omega arith)
     (closed-none P g (evaluate P start) (every-node P g (evaluate P start) (kept-start P g start room va .values)) c))
     tt

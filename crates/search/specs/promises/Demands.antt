@@ -239,7 +239,7 @@ demand-3 s start us d B H e sol near b top =
       words = f .words;
       few = f .few;
       small = f .small;
-      some = λ rest. record { out = f .out; answer = answer (f .moves) (f .steps) Verdict.Model; called = runs e (f .ends rest) };
+      some = λ rest. record { out = f .out; answer = answer (f .moves) (f .steps) (f .evaluated) Verdict.Model; called = runs e (f .ends rest) };
       every =
           λ rest out a c.
           let same = called-unique c (runs e (f .ends rest)) .answers in

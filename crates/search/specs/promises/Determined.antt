@@ -15,19 +15,12 @@ use Rattle.picking.specs.declared.spot.Spot.{Spot}
 use Rattle.search.specs.declared.Answer.{Answer}
 use Rattle.search.specs.declared.TapeNeed.{TapeNeed}
 use Rattle.evaluation.specs.Problem.{Prob}
-use Rattle.evaluation.specs.Lists.{Lists, Lists.done, Lists.keep, Lists.skip}
+use Rattle.evaluation.specs.laws.Lists.{lists-unique}
 use Rattle.search.specs.Step.{Out, goes, blocked, Follows, Follows.inverse, Follows.consistent, Follows.nothing, Step, Step.none-left, Step.followed}
 use Rattle.search.specs.Run.{End, sets, stuck, short, Walk, Walk.arrives, Walk.unserved, Walk.stops, Walk.onward, Move, Move.no-word, Move.from-root, Run, Run.model, Run.spent, Run.ended, Run.moved, Run.held, Whole, Whole.closed, Whole.searched}
 use Rattle.search.specs.Call.{Called, Called.refuses, Called.runs, refused}
 use Rattle.search.specs.Needed.{Needed, Needed.refuses as turned, Needed.needs}
 use Rattle.evaluation.specs.laws.Height.{longest-unique}
-
-pub lists-unique : {A : ℕ → Type 0} {n : ℕ} {l l′ : List ℕ} → Lists A n l → Lists A n l′ → l ≡ l′
-lists-unique done done = refl
-lists-unique (keep r a) (keep r′ a′) = rw (lists-unique r r′)
-lists-unique (keep r a) (skip r′ b′) = absurd (b′ a)
-lists-unique (skip r b) (keep r′ a′) = absurd (b a′)
-lists-unique (skip r b) (skip r′ b′) = lists-unique r r′
 
 -- ---- a step
 
@@ -112,40 +105,41 @@ module _ (P : Prob) (B : ℕ) where
   two-ends {vs} k k′ d = d (ap number (move-unique P vs k k′))
 
   pub run-unique :
-      {vs ws : List ℕ} {m s : ℕ} {out out′ : List ℕ} {a a′ : Answer}
-      → Run P B vs ws m s out a
-      → Run P B vs ws m s out′ a′
+      {vs ws : List ℕ} {m s e : ℕ} {out out′ : List ℕ} {a a′ : Answer}
+      → Run P B vs ws m s e out a
+      → Run P B vs ws m s e out′ a′
       → Same out out′ a a′
   run-unique (model y) (model y′) = itself
   run-unique (model y) (spent x′ b′) = absurd (x′ y)
   run-unique (model y) (ended x′ b′ k′) = absurd (x′ y)
-  run-unique (model y) (moved x′ b′ k′ r′) = absurd (x′ y)
+  run-unique (model y) (moved x′ b′ k′ u′ r′) = absurd (x′ y)
   run-unique (model y) (held x′ b′ k′ r′) = absurd (x′ y)
   run-unique (spent x b) (model y′) = absurd (x y′)
   run-unique (spent x b) (spent x′ b′) = itself
   run-unique (spent x b) (ended x′ b′ k′) = absurd (omega arith)
-  run-unique (spent x b) (moved x′ b′ k′ r′) = absurd (omega arith)
+  run-unique (spent x b) (moved x′ b′ k′ u′ r′) = absurd (omega arith)
   run-unique (spent x b) (held x′ b′ k′ r′) = absurd (omega arith)
   run-unique (ended x b k) (model y′) = absurd (x y′)
   run-unique (ended x b k) (spent x′ b′) = absurd (omega arith)
   run-unique (ended x b k) (ended x′ b′ k′) = itself
-  run-unique (ended x b k) (moved x′ b′ k′ r′) = absurd (two-ends k k′ (omega arith))
+  run-unique (ended x b k) (moved x′ b′ k′ u′ r′) = absurd (two-ends k k′ (omega arith))
   run-unique (ended x b k) (held x′ b′ k′ r′) = absurd (two-ends k k′ (omega arith))
-  run-unique (moved x b k r) (model y′) = absurd (x y′)
-  run-unique (moved x b k r) (spent x′ b′) = absurd (omega arith)
-  run-unique (moved x b k r) (ended x′ b′ k′) = absurd (two-ends k k′ (omega arith))
-  run-unique {vs} (moved {ws′ = ws₁} {s′ = s₁} {n = n} {v = v} x b k r) (moved {ws′ = ws₂} {s′ = s₂} {n = n′} {v = v′} x′ b′ k′ r′) =
+  run-unique (moved x b k u r) (model y′) = absurd (x y′)
+  run-unique (moved x b k u r) (spent x′ b′) = absurd (omega arith)
+  run-unique (moved x b k u r) (ended x′ b′ k′) = absurd (two-ends k k′ (omega arith))
+  run-unique {vs} (moved {ws′ = ws₁} {us = us₁} {s′ = s₁} {n = n} {v = v} x b k u r) (moved {ws′ = ws₂} {us = us₂} {s′ = s₂} {n = n′} {v = v′} x′ b′ k′ u′ r′) =
       let e : sets n v s₁ ws₁ ≡ sets n′ v′ s₂ ws₂ = move-unique P vs k k′ in
       let e₁ : n ≡ n′ = cc in
       let e₂ : v ≡ v′ = cc in
       let e₃ : s₁ ≡ s₂ = cc in
       let e₄ : ws₁ ≡ ws₂ = cc in
-      run-unique r (rw (e₁, e₂, e₃, e₄) r′)
-  run-unique (moved x b k r) (held x′ b′ k′ r′) = absurd (two-ends k k′ (omega arith))
+      let e₅ : us₁ ≡ us₂ = lists-unique u (rw e₁ u′) in
+      run-unique r (rw (e₁, e₂, e₃, e₄, e₅) r′)
+  run-unique (moved x b k u r) (held x′ b′ k′ r′) = absurd (two-ends k k′ (omega arith))
   run-unique (held x b k r) (model y′) = absurd (x y′)
   run-unique (held x b k r) (spent x′ b′) = absurd (omega arith)
   run-unique (held x b k r) (ended x′ b′ k′) = absurd (two-ends k k′ (omega arith))
-  run-unique (held x b k r) (moved x′ b′ k′ r′) = absurd (two-ends k k′ (omega arith))
+  run-unique (held x b k r) (moved x′ b′ k′ u′ r′) = absurd (two-ends k k′ (omega arith))
   run-unique {vs} (held {ws′ = ws₁} {s′ = s₁} x b k r) (held {ws′ = ws₂} {s′ = s₂} x′ b′ k′ r′) =
       let e : stuck s₁ ws₁ ≡ stuck s₂ ws₂ = move-unique P vs k k′ in
       let e₃ : s₁ ≡ s₂ = cc in

@@ -22,7 +22,7 @@ rem-k c = search needs
 
 nth-unsatisfied-requires : tie.Need-nth-unsatisfied-requires
 nth-unsatisfied-requires c κs = let p = c .before .before .before .before .before .pre in
-    (record { accepted = p .0 .filled .accepted; held = p .0 .held }, p .1, mod-lt _ (p .2))
+    (record { accepted = p .searching .filled .accepted; held = p .searching .held }, p .counted, mod-lt _ (p .some))
 
 root-at-requires : tie.Need-root-at-requires
 root-at-requires c κs = search needs
@@ -32,11 +32,11 @@ add-walk c = search needs
 
 walk-requires : tie.Need-walk-requires
 walk-requires c κs = let h : c .before .before .before .before .before .before .before .args .at < length (c .before .before .before .before .before .before .before .args .tape .now) = omega arith in
-    move-walking _ _ (c .before .before .before .before .before .before .before .pre .0) (c .before .before .before .before .before .before .before .pre .1) (c .before .nth-unsatisfied .ensures) (c .root-at .ensures) h (c .before .before .before .before .before .before .before .pre .4)
+    move-walking _ _ (c .before .before .before .before .before .before .before .pre .searching) (c .before .before .before .before .before .before .before .pre .counted) (c .before .nth-unsatisfied .ensures) (c .root-at .ensures) h (c .before .before .before .before .before .before .before .pre .made-le)
 
 returns-2 : tie.Need-returns-2
 returns-2 c = let h : c .before .before .before .before .before .before .before .before .args .at < length (c .before .before .before .before .before .before .before .before .args .tape .now) = omega arith in (
-  move-made _ _ (c .before .before .before .before .before .before .before .before .pre .0) (c .before .before .before .before .before .before .before .before .pre .1) (c .before .before .nth-unsatisfied .ensures) (c .before .root-at .ensures) h (c .walk .ensures .0),
+  move-made _ _ (c .before .before .before .before .before .before .before .before .pre .searching) (c .before .before .before .before .before .before .before .before .pre .counted) (c .before .before .nth-unsatisfied .ensures) (c .before .root-at .ensures) h (c .walk .ensures .0),
   c .walk .ensures .1,
 )
 

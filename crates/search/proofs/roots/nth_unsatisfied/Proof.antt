@@ -6,9 +6,9 @@ use native.Mathlib.Omega.{arith}
 use borrow.Author.Needs.{needs}
 use Rattle.evaluation.specs.Problem.{problem}
 use Rattle.search.specs.Run.{Unsatisfied}
-use Rattle.search.specs.inner.Run.{Count}
+use Rattle.evaluation.specs.inner.Lists.{Count}
 use Rattle.search.proofs.RootPlaces.{root-place, root-value}
-use Rattle.search.proofs.Places.{count-none, count-keep, count-skip, count-unique}
+use Rattle.evaluation.specs.laws.Lists.{count-none, count-keep, count-skip, count-unique}
 use Rattle.search.proofs.roots.nth_unsatisfied.Statement.{statement}
 use Rattle.search.proofs.roots.nth_unsatisfied.Tie as tie
 

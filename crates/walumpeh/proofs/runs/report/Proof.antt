@@ -18,7 +18,10 @@ slice-write-out-3 : tie.Need-slice-write-out-3
 slice-write-out-3 c = simp length-set (omega arith)
 
 slice-write-out-4 : tie.Need-slice-write-out-4
-slice-write-out-4 c = search needs
+slice-write-out-4 c = simp length-set (omega arith)
+
+slice-write-out-5 : tie.Need-slice-write-out-5
+slice-write-out-5 c = search needs
 
 same-length : tie.Need-same-length
 same-length c = search needs
@@ -35,5 +38,6 @@ report-spec =
     slice-write-out-2
     slice-write-out-3
     slice-write-out-4
+    slice-write-out-5
     same-length
     returns)

@@ -1,0 +1,66 @@
+-- `search::search_indexed` meets its contract.
+use native.Mathlib.Omega.{arith}
+use Rattle.evaluation.specs.Problem.{problem}
+use Rattle.evaluation.specs.laws.Good.{good-of}
+use Rattle.search.proofs.Runs.{unindexed}
+use borrow.Author.Needs.{needs}
+use Rattle.search.proofs.search_indexed.Statement.{statement}
+use Rattle.search.proofs.search_indexed.Tie as tie
+
+node-count-requires : tie.Need-node-count-requires
+node-count-requires c κs = search needs
+
+slice-aggregate-index-readers : tie.Need-slice-aggregate-index-readers
+slice-aggregate-index-readers c = search needs
+
+index-readers-requires : tie.Need-index-readers-requires
+unfolding problem
+index-readers-requires c κs = unindexed 512 (c .before .before .before .before .before .before .pre .filled .accepted) (omega (arith, c .before .before .node-count .ensures, c .before .if1 .taken))
+
+slice-aggregate-search : tie.Need-slice-aggregate-search
+slice-aggregate-search c = search needs
+
+search-requires : tie.Need-search-requires
+search-requires c κs = search needs
+
+same-length : tie.Need-same-length
+same-length c = search needs
+
+returns : tie.Need-returns
+returns c = search needs
+
+slice-aggregate-index-readers-2 : tie.Need-slice-aggregate-index-readers-2
+slice-aggregate-index-readers-2 c = search needs
+
+index-readers-requires-2 : tie.Need-index-readers-requires-2
+index-readers-requires-2 c κs = let a = c .before .before .before .before .before .before .pre .filled .accepted in unindexed 4096 a (omega (arith, good-of _ a .few))
+
+slice-aggregate-search-2 : tie.Need-slice-aggregate-search-2
+slice-aggregate-search-2 c = search needs
+
+search-requires-2 : tie.Need-search-requires-2
+search-requires-2 c κs = search needs
+
+same-length-2 : tie.Need-same-length-2
+same-length-2 c = search needs
+
+returns-2 : tie.Need-returns-2
+returns-2 c = search needs
+
+pub search-indexed-spec : {M : Type 1} → statement M
+search-indexed-spec =
+    tie.close
+    (tie.spec
+    node-count-requires
+    slice-aggregate-index-readers
+    index-readers-requires
+    slice-aggregate-search
+    search-requires
+    same-length
+    returns
+    slice-aggregate-index-readers-2
+    index-readers-requires-2
+    slice-aggregate-search-2
+    search-requires-2
+    same-length-2
+    returns-2)
