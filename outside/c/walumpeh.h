@@ -13,7 +13,7 @@
    nothing is done then.
 
    Calls share nothing, keep nothing and allocate nothing: any number may run at once, on any threads.
-   A call takes at most WAL_STACK bytes of stack (wal_run the most, for the pairs of up to 1,024 nodes), but
+   A call takes at most WAL_STACK bytes of stack (wal_run the most, for the pairs of up to 1,024 nodes and the index of who reads each), but
    for wal_model, which takes at most WAL_MODEL_STACK whatever the text (for the values of as many nodes, and
    where the names of their variables stand). */
 #ifndef WALUMPEH_H
@@ -26,7 +26,7 @@
 extern "C" {
 #endif
 
-enum { WAL_STACK = 17408, WAL_MODEL_STACK = 49152 };
+enum { WAL_STACK = 27648, WAL_MODEL_STACK = 49152 };
 
 /* What a node computes. Fields a, b, c of a node name its operands; extract's b is its lowest bit. */
 enum {
@@ -90,7 +90,14 @@ enum {
 };
 
 /* Where wal_run puts what in out, and how many words it needs there. */
-enum { WAL_OUT_VERDICT = 0, WAL_OUT_MOVES = 1, WAL_OUT_STEPS = 2, WAL_OUT_WORDS = 3, WAL_RUN_OUT = 4 };
+enum {
+    WAL_OUT_VERDICT = 0,
+    WAL_OUT_MOVES = 1,
+    WAL_OUT_STEPS = 2,
+    WAL_OUT_WORDS = 3,
+    WAL_OUT_EVALUATED = 4,
+    WAL_RUN_OUT = 5
+};
 
 /* Where wal_need puts what in out, and how many words it needs there. */
 enum { WAL_NEED_CHAIN = 0, WAL_NEED_WORDS = 1, WAL_NEED_OUT = 2 };
@@ -107,8 +114,9 @@ uint64_t wal_check(const uint8_t *problem, size_t problem_len);
 
 /* A whole run: those, and 14 and 15. Of the values only the variables' places are read; after a verdict the
    first N hold every node's value and those after them what they held, and after a refusal none is
-   changed. out takes verdict, moves, steps and words; beside a refusal WAL_REFUSED, 0, 0 and 0. Words of
-   out after the fourth are not touched. */
+   changed. out takes verdict, moves, steps, words and nodes evaluated (N at the beginning, and for every
+   finished move that sets a variable the nodes reachable upward from it, itself included); beside a refusal
+   WAL_REFUSED and four times 0. Words of out after the fifth are not touched. */
 uint64_t wal_run(const uint8_t *problem, size_t problem_len, uint64_t *values, size_t values_len,
                  const uint64_t *tape, size_t tape_len, uint16_t budget, uint64_t *out, size_t out_len);
 

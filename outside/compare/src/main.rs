@@ -192,10 +192,11 @@ fn whole_runs(subject: &impl Subject, seed: u64, cases: u64, out: &Path) -> Resu
     let counts = runs::compare(subject, seed, cases).map_err(|difference| kept(&difference, seed, out))?;
     show(&counts);
     println!(
-        "{} cases, {} moves, {} steps, no difference, {}",
+        "{} cases, {} moves, {} steps, {} nodes evaluated, no difference, {}",
         counts.cases,
         counts.moves,
         counts.steps,
+        counts.evaluated,
         seconds(start)
     );
     match counts.missing().as_slice() {

@@ -18,6 +18,8 @@ pub type Counts = [u64; 5];
 
 const SPENT: u64 = Verdict::Spent as u64;
 const ENDED: u64 = Verdict::Ended as u64;
+/// Where the nodes evaluated stand.
+const EVALUATED: usize = 4;
 
 /// What a run leaves behind.
 #[derive(Clone, Debug, PartialEq)]
@@ -34,9 +36,11 @@ impl Left {
         Left { refusal, out, values }
     }
 
-    /// The same as if these moves, steps and words had gone before.
-    fn after(mut self, before: &Left) -> Left {
+    /// The same as if these moves, steps, words and nodes evaluated had gone before: all nodes, of which there are so many,
+    /// were evaluated at the beginning of each.
+    fn after(mut self, before: &Left, nodes: u64) -> Left {
         (1..RUN_OUT).for_each(|at| self.out[at] += before.out[at]);
+        self.out[EVALUATED] -= nodes;
         self
     }
 }
@@ -50,7 +54,7 @@ pub fn compare_case(
 ) -> Result<(), String> {
     let run = |values: &[u64], tape: &[u64], budget| Left::of(subject, &case.problem, values, tape, budget);
     let first = run(&case.values, &case.tape, case.budget);
-    let [verdict, moves, _, words] = first.out;
+    let [verdict, moves, _, words, _] = first.out;
     if verdict >= counts.len() as u64 || moves > case.budget.into() || words > case.tape.len() as u64 {
         return Err(format!("{}, which cannot be", shown(first.refusal, first.out)));
     }
@@ -67,7 +71,11 @@ pub fn compare_case(
     there.out[0] = SPENT;
     alike("with more words and just as many moves", &run(&case.values, &long, moves), &there)?;
     let rest = run(&first.values, &long[words..], budget - moves);
-    alike("from the state passed through", &rest.after(&first), &second)
+    let nodes = u64::from(u16::from_le_bytes([case.problem[5], case.problem[6]]));
+    if rest.out[EVALUATED] < nodes {
+        return Err(format!("{}, fewer than all {nodes}", shown(rest.refusal, rest.out)));
+    }
+    alike("from the state passed through", &rest.after(&first, nodes), &second)
 }
 
 /// A budget that is greater or equal: mostly by a little, so that the longer run is not much longer.

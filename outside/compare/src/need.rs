@@ -75,7 +75,7 @@ fn compare_one(subject: &impl Subject, rng: &mut Rng, height: usize, budget: u16
     let values = vec![0; 1024];
     let tape = tape(rng, words as usize);
     let all = ran(subject, &problem, &values, &tape, budget);
-    if all != (0, [Verdict::Spent as u64, moves, moves * chain, words]) {
+    if (all.0, &all.1[..4]) != (0, &[Verdict::Spent as u64, moves, moves * chain, words]) {
         return Err(format!("with all {words} words: {}", shown(all.0, all.1)));
     }
     let (refusal, out) = ran(subject, &problem, &values, &tape[1..], budget);

@@ -21,6 +21,8 @@ pub struct Counts {
     pub promised: u64,
     pub moves: u64,
     pub steps: u64,
+    /// Nodes evaluated.
+    pub evaluated: u64,
     /// Steps by the kind and position followed, from the inverse and from the consistent set.
     pub followed: [[[u64; 2]; 3]; Kind::COUNT],
     /// Steps at which a move was blocked, by kind.
@@ -65,6 +67,7 @@ impl Counts {
             (&mut self.promised, other.promised),
             (&mut self.moves, other.moves),
             (&mut self.steps, other.steps),
+            (&mut self.evaluated, other.evaluated),
             (&mut self.checks, other.checks),
             (&mut self.checks_refused, other.checks_refused),
             (&mut self.served, other.served),
@@ -172,7 +175,7 @@ fn compare_case(subject: &impl Subject, case: &Case, counts: &mut Counts) -> Res
             expected_values[place]
         ));
     }
-    let [verdict, moves, steps, words] = out;
+    let [verdict, moves, steps, words, evaluated] = out;
     if let Some(promise) = case.promise {
         counts.promised += 1;
         if verdict != Verdict::Model as u64 || moves > promise.moves || words > promise.words {
@@ -187,6 +190,7 @@ fn compare_case(subject: &impl Subject, case: &Case, counts: &mut Counts) -> Res
     counts.cases += 1;
     counts.moves += moves;
     counts.steps += steps;
+    counts.evaluated += evaluated;
     match refusal & 255 {
         0 => counts.verdicts[verdict as usize] += 1,
         number => counts.refusals[number as usize] += 1,
@@ -241,12 +245,12 @@ fn compare_need(
 }
 
 /// An answer in words.
-pub(crate) fn shown(refusal: u64, [verdict, moves, steps, words]: [u64; RUN_OUT]) -> String {
+pub(crate) fn shown(refusal: u64, [verdict, moves, steps, words, evaluated]: [u64; RUN_OUT]) -> String {
     let name = match Verdict::ALL.get(verdict as usize) {
         Some(verdict) => verdict.name().into(),
         None => format!("number {verdict}"),
     };
-    let counts = format!("verdict {name} moves {moves} steps {steps} words {words}");
+    let counts = format!("verdict {name} moves {moves} steps {steps} words {words} evaluated {evaluated}");
     format!("{} with {counts}", refusal_shown(refusal))
 }
 

@@ -5,7 +5,7 @@ use model::{Set, Spot};
 pub trait Subject: Sync {
     /// 0, or a refusal's number + 256 × its place.
     fn check(&self, problem: &[u8]) -> u64;
-    /// The same; `out` takes verdict, moves, steps and words.
+    /// The same; `out` takes verdict, moves, steps, words and nodes evaluated.
     fn run(&self, problem: &[u8], values: &mut [u64], tape: &[u64], budget: u16, out: &mut [u64]) -> u64;
     /// The same; `out` takes H and how many words the budget needs.
     fn need(&self, problem: &[u8], budget: u16, out: &mut [u64]) -> u64;

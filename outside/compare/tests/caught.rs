@@ -21,6 +21,10 @@ enum Wrong {
     MissesRepeatsApart,
     TakesAShortAnswer,
     KeepsOldCounts,
+    CountsAllNodes,
+    CountsWhatChanged,
+    ForgetsTheBeginning,
+    CountsThoughRefused,
     LinksTheLowestBit,
     MeasuresTheFirstRoot,
     MeasuresOneTooFew,
@@ -74,6 +78,12 @@ impl Subject for Wrong {
             CountsAfterTheFirstMove if out[0] == 1 => out[1] = budget.into(),
             InventsAStep if refusal == 0 => (out[2], out[3]) = (out[2] + 1, out[3] + 2),
             KeepsOldCounts if refusal != 0 => out[1] = 1,
+            CountsAllNodes if refusal == 0 => out[4] = nodes(problem) * (1 + out[1]),
+            CountsWhatChanged if refusal == 0 => {
+                out[4] = nodes(problem) + changed(problem, &before, tape, out[1])
+            }
+            ForgetsTheBeginning if refusal == 0 => out[4] -= nodes(problem),
+            CountsThoughRefused if refusal & 255 == 15 => out[4] = nodes(problem),
             ThrowsSumsAway if out[0] == 3 && !closes_by_the_low_bits_of_sums(problem) => out[0] = 1,
             _ => {}
         }
@@ -154,6 +164,23 @@ impl Subject for Wrong {
         }
         Model.essential(&asked)
     }
+}
+
+fn nodes(problem: &[u8]) -> u64 {
+    u16::from_le_bytes([problem[5], problem[6]]).into()
+}
+
+/// How many nodes got another value, over so many moves made one by one.
+fn changed(problem: &[u8], start: &[u64], mut tape: &[u64], moves: u64) -> u64 {
+    let (mut values, mut changed) = (start.to_vec(), 0);
+    model::run(problem, &mut values, &[], 0);
+    for _ in 0..moves {
+        let before = values.clone();
+        let answer = model::run(problem, &mut values, tape, 1);
+        tape = &tape[answer.words as usize..];
+        changed += values.iter().zip(before).filter(|(now, before)| **now != *before).count() as u64;
+    }
+    changed
 }
 
 /// Whether a root is fixed at 0 where of a sum only the bits below the lowest free one are fixed.
@@ -258,6 +285,10 @@ fn wrong_runs_are_caught() {
         MissesRepeatsApart,
         TakesAShortAnswer,
         KeepsOldCounts,
+        CountsAllNodes,
+        CountsWhatChanged,
+        ForgetsTheBeginning,
+        CountsThoughRefused,
         LinksTheLowestBit,
         MeasuresTheFirstRoot,
         MeasuresOneTooFew,

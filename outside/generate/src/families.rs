@@ -4,7 +4,8 @@ use crate::builder::Builder;
 use crate::rng::Rng;
 use crate::solved;
 use crate::solved::{finish, Solved};
-use model::{ones, Kind, Pair};
+use model::problem::MOST_NODES;
+use model::{ones, Kind, Pair, Problem};
 
 /// The values of the variables as they are added, and zeros at the other nodes.
 #[derive(Default)]
@@ -39,8 +40,20 @@ impl Draft {
 /// A frame: a fixed mark, a length, `words` data words of 16 bits some of whose bits are known, a
 /// checksum (a turning sum of them all) and a parity bit. Sought: data that meet them.
 pub fn frame(seed: u64, words: usize) -> Solved {
+    frames(seed, 1, words)
+}
+
+/// A number of frames side by side, each with its own checksum and parity.
+pub fn frames(seed: u64, count: usize, words: usize) -> Solved {
     let rng = &mut Rng::new(seed);
     let mut draft = Draft::default();
+    for _ in 0..count {
+        add_frame(&mut draft, rng, words);
+    }
+    draft.finish()
+}
+
+fn add_frame(draft: &mut Draft, rng: &mut Rng, words: usize) {
     let mark = draft.variable(16, 0xa55a, 0xff);
     let length = draft.variable(16, words as u64, u64::MAX);
     let data: Vec<u16> =
@@ -71,7 +84,6 @@ pub fn frame(seed: u64, words: usize) -> Solved {
         draft.builder.root_equals(id, value);
     }
     draft.builder.root_equals(mark, 0xa55a);
-    draft.finish()
 }
 
 /// Products with a known answer: `count` factor pairs x, y of `width` bits with x · y, x · 6 + y and
@@ -218,6 +230,27 @@ pub fn counter(seed: u64, ticks: usize) -> Solved {
     draft.finish()
 }
 
+/// 1,024 nodes of which so many, from 3 on, are above a variable x, spread evenly over all ids; the others are over a second
+/// variable. The roots ask for x = 1 and for x = 2, so that every move sets x, in one step, and no run says *model*.
+pub fn spread(above: usize) -> Problem {
+    const KINDS: [Kind; 6] = [Kind::Add, Kind::Xor, Kind::Mul, Kind::And, Kind::Shl, Kind::Lshr];
+    let mut b = Builder::new();
+    let variables = [b.variable(32, Pair::free(32)), b.variable(32, Pair::free(32))];
+    let targets = [b.constant(32, 1), b.constant(32, 2)];
+    // Beside the roots' two nodes.
+    let (between, of_x) = (MOST_NODES - b.len() - 2, above - 3);
+    let mut last = variables;
+    for at in 0..between {
+        let side = usize::from(at * of_x % between >= of_x);
+        last[side] = b.node(KINDS[at % KINDS.len()], &[last[side], variables[side]]);
+    }
+    for target in targets {
+        let equal = b.node(Kind::Eq, &[variables[0], target]);
+        b.root(equal);
+    }
+    b.problem
+}
+
 /// A problem of the family of random ones with a solution: every kind and width.
 pub fn mixed(seed: u64, size: usize) -> Solved {
     solved::solved(&mut Rng::new(seed), size)
@@ -234,10 +267,19 @@ mod tests {
     use model::problem::read;
 
     #[test]
+    fn so_many_are_above_the_variable() {
+        for above in [3, 4, 64, 511, 1000, 1020] {
+            let problem = spread(above);
+            assert_eq!(read(&problem.bytes()).as_ref(), Ok(&problem));
+            assert_eq!((problem.nodes.len(), problem.above(0)), (MOST_NODES, above as u64));
+        }
+    }
+
+    #[test]
     fn every_family_is_accepted_and_solved() {
         let sized = |size| {
             let of_all = [frame(1, 8 * size), products(2, size, 32), mixed(4, 8 * size)];
-            of_all.into_iter().chain([laps(5, 4 * size), counter(6, 4 * size)])
+            of_all.into_iter().chain([laps(5, 4 * size), counter(6, 4 * size), frames(1, size, 8)])
         };
         let deep = [16, 64, 256, 1024].map(|size| deep(3, size));
         for solved in [1, 4].into_iter().flat_map(sized).chain(deep) {

@@ -48,6 +48,17 @@ pub struct Answer {
     pub moves: u64,
     pub steps: u64,
     pub words: u64,
+    /// Nodes evaluated: all at the beginning, and for every finished move that sets a variable those reachable upward from
+    /// it, itself included.
+    pub evaluated: u64,
+}
+
+impl Answer {
+    /// The answer in the library's numbers, where nothing is refused.
+    fn of([verdict, moves, steps, words, evaluated]: [u64; raw::RUN_OUT]) -> Answer {
+        let verdict = Verdict::of(verdict).expect("a run that is not refused has a verdict");
+        Answer { verdict, moves, steps, words, evaluated }
+    }
 }
 
 /// Whether a problem's bytes are accepted.
@@ -60,9 +71,7 @@ pub fn check(problem: &[u8]) -> Result<(), Refusal> {
 pub fn run(problem: &[u8], values: &mut [u64], tape: &[u64], budget: u16) -> Result<Answer, Refusal> {
     let mut out = [0; raw::RUN_OUT];
     Refusal::of(raw::run(problem, values, tape, budget, &mut out))?;
-    let [verdict, moves, steps, words] = out;
-    let verdict = Verdict::of(verdict).expect("a run that is not refused has a verdict");
-    Ok(Answer { verdict, moves, steps, words })
+    Ok(Answer::of(out))
 }
 
 /// How long a tape a problem's runs take.

@@ -63,8 +63,8 @@ mod calls {
 /// Whether the model stands in for the proved library.
 pub const IS_STUB: bool = cfg!(feature = "stub");
 
-/// How many words a run needs for its answer: verdict, moves, steps and words.
-pub const RUN_OUT: usize = 4;
+/// How many words a run needs for its answer: verdict, moves, steps, words and nodes evaluated.
+pub const RUN_OUT: usize = 5;
 
 /// How many words `need` needs for its answer: H and the number of words.
 pub const NEED_OUT: usize = 2;
@@ -82,7 +82,7 @@ pub fn check(problem: &[u8]) -> u64 {
 }
 
 /// 0, or the refusal's number + 256 × its place. `out` takes the verdict (0 model, 1 spent, 2 ended,
-/// 3 closed, 4 refused), moves, steps and words.
+/// 3 closed, 4 refused), moves, steps, words and nodes evaluated.
 pub fn run(problem: &[u8], values: &mut [u64], tape: &[u64], budget: u16, out: &mut [u64]) -> u64 {
     // SAFETY: the pointers and lengths are those of slices; the two that are written are borrowed
     // for this call alone.

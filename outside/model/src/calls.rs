@@ -8,8 +8,8 @@ use crate::{exact, ones, run as model_run, Answer, Kind, Operator, Outcome, Pair
 /// The words that describe a node's operands: widths, los, his and current values of a, b and c.
 pub const SPOT_WORDS: usize = 12;
 
-/// How many words a run's answer takes: verdict, moves, steps and words.
-pub const RUN_OUT: usize = 4;
+/// How many words a run's answer takes: verdict, moves, steps, words and nodes evaluated.
+pub const RUN_OUT: usize = 5;
 
 /// How many words the answer of `need` takes: H and the number of words.
 pub const NEED_OUT: usize = 2;
@@ -71,13 +71,14 @@ pub fn run(problem: &[u8], values: &mut [u64], tape: &[u64], budget: u16, out: &
 }
 
 /// 0, or the refusal's number + 256 × its place. `out` takes the verdict (0 model, 1 spent, 2 ended,
-/// 3 closed, 4 refused), moves, steps and words.
+/// 3 closed, 4 refused), moves, steps, words and nodes evaluated.
 pub fn numbers(answer: &Answer, out: &mut [u64]) -> u64 {
     let (refusal, verdict) = match answer.outcome {
         Outcome::Settled(verdict) => (0, verdict as u64),
         Outcome::Refused(refusal) => (code(refusal), 4),
     };
-    out[..RUN_OUT].copy_from_slice(&[verdict, answer.moves, answer.steps, answer.words]);
+    let Answer { moves, steps, words, evaluated, .. } = *answer;
+    out[..RUN_OUT].copy_from_slice(&[verdict, moves, steps, words, evaluated]);
     refusal
 }
 

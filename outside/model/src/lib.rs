@@ -5,11 +5,11 @@
 //! |--------------|---------------------------------------------------------------------------|
 //! | `word`       | widths, ternary words, what "agrees" means                                |
 //! | `operator`   | the table of kinds: operands, width rule, meaning                         |
-//! | `problem`    | problem bytes, their refusals, evaluation, H, the tape's length           |
+//! | `problem`    | problem bytes, their refusals, evaluation, H, what is above a node        |
 //! | `pairs`      | fixed bits of inner nodes                                                 |
 //! | `definition` | the three sets and the pick by going through all values (small widths)    |
 //! | `exact`      | the same sets and pick at every width                                     |
-//! | `run`        | a run: refusals 14 and 15, verdicts, moves, steps, words                  |
+//! | `run`        | a run: refusals 14 and 15, verdicts and counts                            |
 //! | `recipe`     | demand 3: the tape that leads from a start to a known solution            |
 //! | `judged`     | another solver's model: its text, refusals 30 to 36, the first root that is 0 |
 //! | `files`      | the three files of `tvrun`: what they hold and what is printed            |

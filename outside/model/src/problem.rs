@@ -1,4 +1,5 @@
-//! Problem bytes: reading them with refusals 1 to 13, 16 and 20, writing them, evaluation, H, and how long a tape it takes.
+//! Problem bytes: reading them with refusals 1 to 13, 16 and 20, writing them, evaluation, what is above a node, H, and how
+//! long a tape it takes.
 
 use crate::operator::{Kind, Operator};
 use crate::word::Pair;
@@ -157,6 +158,17 @@ impl Problem {
                 _ => values[id] = self.operator(id).apply(self.at_operands(id, values)),
             }
         }
+    }
+
+    /// How many nodes are reachable upward from a node, itself included: it, and each that reads one of them.
+    pub fn above(&self, id: usize) -> u64 {
+        let mut is_above = vec![false; self.nodes.len()];
+        is_above[id] = true;
+        // Operands come before their readers, so one pass upward reaches all.
+        for (reader, node) in self.nodes.iter().enumerate() {
+            is_above[reader] |= node.operands().iter().any(|&operand| is_above[operand as usize]);
+        }
+        is_above.into_iter().map(u64::from).sum()
     }
 
     /// H, "the longest chain of operand links under any root, 0 if there are none".

@@ -1,4 +1,4 @@
-//! A run: refusals 14 and 15, the verdicts, moves, steps and words.
+//! A run: refusals 14 and 15, the verdicts, moves, steps, words and nodes evaluated.
 
 use crate::operator::Kind;
 use crate::problem::{read, Problem, Refusal};
@@ -40,7 +40,17 @@ pub struct Answer {
     pub moves: u64,
     pub steps: u64,
     pub words: u64,
+    /// "N at the beginning, and for every finished move that sets a variable the number of nodes reachable upward from it,
+    /// itself included. Blocked moves and refusals add 0."
+    pub evaluated: u64,
     pub outcome: Outcome,
+}
+
+impl Answer {
+    /// A refusal "has all counts 0".
+    pub fn refused(refusal: Refusal) -> Answer {
+        Answer { moves: 0, steps: 0, words: 0, evaluated: 0, outcome: Outcome::Refused(refusal) }
+    }
 }
 
 /// The whole run. The values are changed exactly if the outcome is a verdict, and then in the first
@@ -58,7 +68,7 @@ pub fn run_seen(
     see: &mut dyn FnMut(Step),
 ) -> Answer {
     match Search::accept(bytes, values) {
-        Err(refusal) => Answer { moves: 0, steps: 0, words: 0, outcome: Outcome::Refused(refusal) },
+        Err(refusal) => Answer::refused(refusal),
         Ok(search) => search.run(values, &mut Tape { words: tape }, budget, see),
     }
 }
@@ -136,7 +146,8 @@ impl Search {
         budget: u16,
         see: &mut dyn FnMut(Step),
     ) -> Answer {
-        let mut answer = Answer { moves: 0, steps: 0, words: 0, outcome: Outcome::Settled(Verdict::Closed) };
+        let (evaluated, outcome) = (self.problem.nodes.len() as u64, Outcome::Settled(Verdict::Closed));
+        let mut answer = Answer { moves: 0, steps: 0, words: 0, evaluated, outcome };
         self.problem.evaluate(values);
         if self.problem.roots.iter().any(|&root| self.pairs[root as usize] == Pair::fixed(0)) {
             return answer;
@@ -154,6 +165,7 @@ impl Search {
             if let Some((variable, value)) = done.change {
                 values[variable] = value;
                 self.problem.evaluate(values);
+                answer.evaluated += self.problem.above(variable);
             }
             answer.moves += 1;
             answer.steps += done.steps;

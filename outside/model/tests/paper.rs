@@ -3,7 +3,8 @@
 use model::files::{bytes_of, printed, tape_file};
 use model::problem::read;
 use model::{
-    definition, exact, pairs, Kind, Node, Operator, Outcome, Pair, Problem, Refusal, Set, Spot, Verdict,
+    definition, exact, pairs, Answer, Kind, Node, Operator, Outcome, Pair, Problem, Refusal, Set, Spot,
+    Verdict,
 };
 
 fn variable(width: u32, pair: Pair) -> Node {
@@ -37,6 +38,61 @@ fn the_worked_example() {
     let problem = worked_example().bytes();
     let printed = printed(&problem, &bytes_of(&[0; 5]), &tape_file(1, &[0, 0, 9, 0, 4]));
     assert_eq!(printed, "verdict model moves 1 steps 2 words 5\n0 11\n");
+}
+
+/// Nodes evaluated: N at the beginning, and what is above the variable that a finished move sets.
+#[test]
+fn what_a_run_evaluates() {
+    let example = worked_example();
+    let run = |values: &mut [u64], tape: &[u64], budget| {
+        let answer = model::run(&example.bytes(), values, tape, budget);
+        (answer.moves, answer.evaluated)
+    };
+    assert_eq!([0, 1, 2, 3, 4].map(|id| example.above(id)), [3, 3, 2, 2, 1]);
+    assert_eq!(run(&mut [0; 5], &[0, 0, 9, 0, 4], 1), (1, 5 + 3));
+    assert_eq!(run(&mut [0; 5], &[0, 0, 9, 0], 1), (0, 5), "an unfinished move");
+    assert_eq!(run(&mut [0; 5], &[], 0), (0, 5), "spent at once");
+    assert_eq!(run(&mut [3, 0, 0, 0, 0], &[], 9), (0, 5), "a model at once");
+    assert_eq!(run(&mut [16, 0, 0, 0, 0], &[], 9), (0, 0), "refused");
+    let sum = Problem {
+        nodes: vec![
+            variable(4, Pair::free(4)),
+            variable(4, Pair::free(4)),
+            node(Kind::Add, 4, [0, 1, 0]),
+            constant(4, 5),
+            node(Kind::Eq, 1, [2, 3, 0]),
+        ],
+        roots: vec![4],
+    };
+    let mut values = [1, 3, 0, 0, 0];
+    let answer = model::run(&sum.bytes(), &mut values, &[0, 0, 0, 1, 1], 1);
+    assert_eq!(
+        (values, answer.evaluated),
+        ([1, 3, 4, 5, 0], 5 + 3),
+        "a variable takes the value that it has"
+    );
+    let twice = Problem {
+        nodes: vec![
+            variable(4, Pair::free(4)),
+            node(Kind::Add, 4, [0, 0, 0]),
+            node(Kind::Eq, 1, [0, 1, 0]),
+            constant(1, 0),
+            node(Kind::Concat, 2, [2, 3, 0]),
+            variable(1, Pair::free(1)),
+        ],
+        roots: vec![2, 5],
+    };
+    assert_eq!([0, 1, 2, 3, 4, 5].map(|id| twice.above(id)), [4, 3, 2, 2, 1, 1]);
+    let mut values = [5, 0, 0, 0, 0, 0];
+    let answer = model::run(&twice.bytes(), &mut values, &[1, 0, 0, 0], 2);
+    assert_eq!(
+        (answer.moves, answer.evaluated),
+        (2, 6 + 1 + 4),
+        "a variable that nobody reads, then the other"
+    );
+    let closed = Problem { nodes: vec![constant(1, 0), variable(2, Pair::free(2))], roots: vec![0] };
+    let answer = model::run(&closed.bytes(), &mut [0; 2], &[], 9);
+    assert_eq!((answer.outcome, answer.evaluated), (Outcome::Settled(Verdict::Closed), 2));
 }
 
 #[test]
@@ -257,7 +313,7 @@ fn a_step_is_blocked_where_no_branch_agrees() {
     let answer = model::run(&branches.bytes(), &mut values, &[0, 0, 0, 1, 1], 1);
     assert_eq!(
         answer,
-        model::Answer { moves: 1, steps: 2, words: 5, outcome: Outcome::Settled(Verdict::Spent) }
+        Answer { moves: 1, steps: 2, words: 5, evaluated: 6, outcome: Outcome::Settled(Verdict::Spent) }
     );
     assert_eq!(values, [0, 0, 3, 3, 1, 0]);
 }
@@ -351,7 +407,7 @@ fn a_blocked_move_counts_and_changes_nothing() {
     let answer = model::run(&blocked.bytes(), &mut values, &[0, 0, 1, 0, 0, 0, 1], 1);
     assert_eq!(
         answer,
-        model::Answer { moves: 1, steps: 2, words: 5, outcome: Outcome::Settled(Verdict::Spent) }
+        Answer { moves: 1, steps: 2, words: 5, evaluated: 5, outcome: Outcome::Settled(Verdict::Spent) }
     );
     assert_eq!(values, [2, 3, 6, 1, 0, 9]);
 }

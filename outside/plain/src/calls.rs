@@ -5,7 +5,7 @@ use crate::kind::{COUNT, EXTRACT};
 use crate::layout::{check as check_problem, height, operands, widest, Refusal};
 use crate::mask;
 use crate::picking::{essential as is_essential, pick_consistent, pick_inverse, Spot};
-use crate::search::{run as run_problem, Outcome};
+use crate::search::{run as run_problem, run_evaluating_all, Answer, Outcome};
 
 /// 0 where the problem is accepted, else the refusal's number + 256 × its place.
 #[inline(never)]
@@ -18,19 +18,35 @@ fn code(refusal: Refusal) -> u64 {
 }
 
 /// 0, or the refusal's number + 256 × its place; 255 where `out` is too short. It takes the verdict
-/// (0 model, 1 spent, 2 ended, 3 closed, 4 refused), moves, steps and words.
+/// (0 model, 1 spent, 2 ended, 3 closed, 4 refused), moves, steps, words and nodes evaluated.
 #[inline(never)]
 pub fn run(problem: &[u8], values: &mut [u64], tape: &[u64], budget: u16, out: &mut [u64]) -> u64 {
     let Some(out) = out.first_chunk_mut() else {
         return 255;
     };
-    let answer = run_problem(problem, values, tape, budget);
+    let refusal;
+    (refusal, *out) = numbers(run_problem(problem, values, tape, budget));
+    refusal
+}
+
+/// The same by evaluating all nodes after each move, which is what it counts: what the gain is measured by.
+#[inline(never)]
+pub fn run_all(problem: &[u8], values: &mut [u64], tape: &[u64], budget: u16, out: &mut [u64]) -> u64 {
+    let Some(out) = out.first_chunk_mut() else {
+        return 255;
+    };
+    let refusal;
+    (refusal, *out) = numbers(run_evaluating_all(problem, values, tape, budget));
+    refusal
+}
+
+/// An answer in numbers.
+fn numbers(answer: Answer) -> (u64, [u64; 5]) {
     let (refusal, verdict) = match answer.outcome {
         Outcome::Settled(verdict) => (0, verdict as u64),
         Outcome::Refused(refusal) => (code(refusal), 4),
     };
-    *out = [verdict, answer.moves, answer.steps, answer.words];
-    refusal
+    (refusal, [verdict, answer.moves, answer.steps, answer.words, answer.evaluated])
 }
 
 /// The same; `out` takes H and budget × (1 + 2H), or two zeros.

@@ -8,6 +8,7 @@
 //! | `picking` | inverse and consistent picks and the essential test       |
 //! | `layout`  | problem bytes: nodes, roots, their refusals, H            |
 //! | `values`  | evaluation and fixed bits of all nodes                    |
+//! | `readers` | who reads each node, and evaluation above a variable      |
 //! | `search`  | the run                                                   |
 //! | `calls`   | the library's calls, in its numbers                       |
 
@@ -15,6 +16,7 @@ pub mod calls;
 pub mod layout;
 pub mod member;
 pub mod picking;
+pub mod readers;
 pub mod search;
 pub mod values;
 

@@ -4,6 +4,7 @@ use crate::kind::*;
 use crate::layout::{check, field, hi, kind, lo, operands, root, width, Node, Problem, Refusal, MOST_NODES};
 use crate::mask;
 use crate::picking::{essential, pick_consistent, pick_inverse, Spot};
+use crate::readers::{Few, Many};
 use crate::values::{evaluate, fill, Pairs};
 
 #[derive(Clone, Copy, Debug, PartialEq, Eq)]
@@ -25,12 +26,45 @@ pub struct Answer {
     pub moves: u64,
     pub steps: u64,
     pub words: u64,
+    /// Nodes evaluated: all at the beginning, and those above the variable in each move that sets one.
+    pub evaluated: u64,
     pub outcome: Outcome,
 }
 
-/// A whole run.
+/// A whole run that evaluates, after each move, what is above the variable that it set.
 pub fn run(bytes: &[u8], values: &mut [u64], tape: &[u64], budget: u16) -> Answer {
-    let refused = |refusal| Answer { moves: 0, steps: 0, words: 0, outcome: Outcome::Refused(refusal) };
+    begin(bytes, values, |problem, pairs, values| {
+        let nodes = problem.nodes;
+        if nodes.len() <= 128 {
+            let readers = Few::of(nodes);
+            settle(problem, pairs, values, tape, budget, |values, v, x| readers.take(nodes, values, v, x))
+        } else {
+            let readers = Many::of(nodes);
+            settle(problem, pairs, values, tape, budget, |values, v, x| readers.take(nodes, values, v, x))
+        }
+    })
+}
+
+/// A whole run that evaluates all nodes after each move: what the gain is measured by.
+pub fn run_evaluating_all(bytes: &[u8], values: &mut [u64], tape: &[u64], budget: u16) -> Answer {
+    begin(bytes, values, |problem, pairs, values| {
+        settle(problem, pairs, values, tape, budget, |values, v, x| {
+            values[v] = x;
+            evaluate(problem.nodes, values);
+            problem.nodes.len() as u64
+        })
+    })
+}
+
+/// Refuses, or evaluates all nodes, fills in their pairs and goes on.
+#[inline(always)]
+fn begin(
+    bytes: &[u8],
+    values: &mut [u64],
+    go_on: impl FnOnce(Problem, &Pairs, &mut [u64]) -> Answer,
+) -> Answer {
+    let refused =
+        |refusal| Answer { moves: 0, steps: 0, words: 0, evaluated: 0, outcome: Outcome::Refused(refusal) };
     let problem = match check(bytes) {
         Ok(problem) => problem,
         Err(refusal) => return refused(refusal),
@@ -46,12 +80,22 @@ pub fn run(bytes: &[u8], values: &mut [u64], tape: &[u64], budget: u16) -> Answe
     evaluate(problem.nodes, values);
     let mut pairs = Pairs { lo: [0; MOST_NODES], hi: [0; MOST_NODES] };
     fill(problem.nodes, &mut pairs);
-    settle(problem, &pairs, values, tape, budget)
+    go_on(problem, &pairs, values)
 }
 
-/// The run of an accepted problem, its values evaluated and its pairs filled in.
-fn settle(problem: Problem, pairs: &Pairs, values: &mut [u64], tape: &[u64], budget: u16) -> Answer {
+/// The run of an accepted problem, its values evaluated and its pairs filled in. `take` gives a variable a value,
+/// brings the others up to date and answers how many nodes were evaluated.
+#[inline(always)]
+fn settle(
+    problem: Problem,
+    pairs: &Pairs,
+    values: &mut [u64],
+    tape: &[u64],
+    budget: u16,
+    mut take: impl FnMut(&mut [u64], usize, u64) -> u64,
+) -> Answer {
     let (mut moves, mut steps, mut read) = (0, 0, 0);
+    let mut evaluated = problem.nodes.len() as u64;
     let verdict = if problem.roots.iter().any(|entry| pairs.hi[root(entry)] == 0) {
         Verdict::Closed
     } else {
@@ -67,15 +111,14 @@ fn settle(problem: Problem, pairs: &Pairs, values: &mut [u64], tape: &[u64], bud
                 break Verdict::Ended;
             };
             if let Some((variable, value)) = done.change {
-                values[variable] = value;
-                evaluate(problem.nodes, values);
+                evaluated += take(values, variable, value);
             }
             moves += 1;
             steps += done.steps;
             read += 1 + 2 * done.steps as usize;
         }
     };
-    Answer { moves, steps, words: read as u64, outcome: Outcome::Settled(verdict) }
+    Answer { moves, steps, words: read as u64, evaluated, outcome: Outcome::Settled(verdict) }
 }
 
 /// A finished move: its steps, and the variable and value that it ends with, unless blocked.
@@ -148,4 +191,54 @@ fn spot(nodes: &[Node], pairs: &Pairs, values: &[u64], node: &Node) -> Spot {
         spot.now[position] = values[operand];
     }
     spot
+}
+
+#[cfg(test)]
+mod tests {
+    use super::*;
+    use generate::families::{deep, frames, mixed, products, start};
+    use generate::Rng;
+
+    /// How many nodes are above a variable, itself included, by the definition.
+    fn above(nodes: &[Node], variable: usize) -> u64 {
+        let mut above = vec![false; nodes.len()];
+        above[variable] = true;
+        for (id, node) in nodes.iter().enumerate() {
+            above[id] |= (0..operands(kind(node))).any(|position| above[field(node, position)]);
+        }
+        above.into_iter().map(u64::from).sum()
+    }
+
+    /// A run that evaluates all nodes after each move, with the count by the definition.
+    fn defined(bytes: &[u8], values: &mut [u64], tape: &[u64], budget: u16) -> Answer {
+        begin(bytes, values, |problem, pairs, values| {
+            settle(problem, pairs, values, tape, budget, |values, v, x| {
+                values[v] = x;
+                evaluate(problem.nodes, values);
+                above(problem.nodes, v)
+            })
+        })
+    }
+
+    #[test]
+    fn evaluation_above_gives_what_evaluation_of_all_gives() {
+        for index in 0..3000 {
+            let mut rng = Rng::of_case(7, index);
+            let seed = rng.word();
+            let solved = match index % 10 {
+                0 => frames(seed, rng.between(1, 8), rng.between(1, 16)),
+                1 => products(seed, rng.between(1, 90), 32),
+                2 => deep(seed, rng.between(16, 1024)),
+                3 => mixed(seed, rng.between(1, 900)),
+                _ => mixed(seed, rng.between(1, 60)),
+            };
+            let bytes = solved.problem.bytes();
+            let tape: Vec<u64> = (0..rng.between(0, 3000)).map(|_| rng.word()).collect();
+            let (values, budget) = (start(rng.word(), &solved), rng.between(0, 60) as u16);
+            let [mut expected, mut found] = [values.clone(), values];
+            let answer = defined(&bytes, &mut expected, &tape, budget);
+            assert_eq!(run(&bytes, &mut found, &tape, budget), answer, "case {index}");
+            assert_eq!(found, expected, "case {index}");
+        }
+    }
 }

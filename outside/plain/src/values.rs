@@ -7,35 +7,48 @@ use crate::{low_bits, mask, sign_extended};
 /// Sets every node's value from the variables'. The values have one place for each node.
 pub fn evaluate(nodes: &[Node], values: &mut [u64]) {
     for (id, node) in nodes.iter().enumerate() {
-        let at = |position: usize| values[field(node, position)];
-        let w = width(node);
-        let value = match kind(node) {
-            VARIABLE => continue,
-            CONSTANT => lo(node),
-            NOT => !at(0) & mask(w),
-            AND => at(0) & at(1),
-            XOR => at(0) ^ at(1),
-            ADD => at(0).wrapping_add(at(1)) & mask(w),
-            MUL => at(0).wrapping_mul(at(1)) & mask(w),
-            SHL => shl(at(0), at(1), w),
-            LSHR => lshr(at(0), at(1), w),
-            EQ => u64::from(at(0) == at(1)),
-            BELOW => u64::from(at(0) < at(1)),
-            IF if at(0) == 1 => at(1),
-            IF => at(2),
-            CONCAT => at(0) << width(&nodes[field(node, 1)]) | at(1),
-            SIGNED_BELOW => {
-                let from = width(&nodes[field(node, 0)]);
-                let number = |position: usize| sign_extended(at(position), from) as i64;
-                u64::from(number(0) < number(1))
-            }
-            ASHR => ashr(at(0), at(1), w),
-            SIGN_EXTEND => sign_extended(at(0), width(&nodes[field(node, 0)])) & mask(w),
-            UDIV => at(0).checked_div(at(1)).unwrap_or(mask(w)),
-            _ => at(0) >> field(node, 1) & mask(w),
-        };
-        values[id] = value;
+        if let Some(value) = value(nodes, values, node, |_| true) {
+            values[id] = value;
+        }
     }
+}
+
+/// The value that a node has by its operands' values, where it is `asked` for: that is told how many operands
+/// there are. A variable has none. The question stands in every arm so that there is one jump by the kind.
+#[inline(always)]
+pub fn value(nodes: &[Node], values: &[u64], node: &Node, asked: impl Fn(usize) -> bool) -> Option<u64> {
+    let at = |position: usize| values[field(node, position)];
+    let w = width(node);
+    Some(match kind(node) {
+        CONSTANT if asked(0) => lo(node),
+        NOT if asked(1) => !at(0) & mask(w),
+        AND if asked(2) => at(0) & at(1),
+        XOR if asked(2) => at(0) ^ at(1),
+        ADD if asked(2) => at(0).wrapping_add(at(1)) & mask(w),
+        MUL if asked(2) => at(0).wrapping_mul(at(1)) & mask(w),
+        SHL if asked(2) => shl(at(0), at(1), w),
+        LSHR if asked(2) => lshr(at(0), at(1), w),
+        EQ if asked(2) => u64::from(at(0) == at(1)),
+        BELOW if asked(2) => u64::from(at(0) < at(1)),
+        IF if asked(3) => {
+            if at(0) == 1 {
+                at(1)
+            } else {
+                at(2)
+            }
+        }
+        CONCAT if asked(2) => at(0) << width(&nodes[field(node, 1)]) | at(1),
+        EXTRACT if asked(1) => at(0) >> field(node, 1) & mask(w),
+        SIGNED_BELOW if asked(2) => {
+            let from = width(&nodes[field(node, 0)]);
+            let number = |position: usize| sign_extended(at(position), from) as i64;
+            u64::from(number(0) < number(1))
+        }
+        ASHR if asked(2) => ashr(at(0), at(1), w),
+        UDIV if asked(2) => at(0).checked_div(at(1)).unwrap_or(mask(w)),
+        SIGN_EXTEND if asked(1) => sign_extended(at(0), width(&nodes[field(node, 0)])) & mask(w),
+        _ => return None,
+    })
 }
 
 #[inline]

@@ -171,10 +171,15 @@ fn answer_pins(problem: &Problem, file: &Path) -> Result<Vec<Pin>, Fault> {
     }
 }
 
-/// `verdict NAME moves M steps S words W`
+/// `verdict NAME moves M steps S words W`, perhaps with ` evaluated E`
 fn is_verdict(line: &str) -> bool {
     let number = |word: &str| decimal(word).is_some();
-    match line.split(' ').collect::<Vec<_>>()[..] {
+    let words: Vec<&str> = line.split(' ').collect();
+    let counts = match words[..] {
+        [ref counts @ .., "evaluated", e] if number(e) => counts,
+        ref counts => counts,
+    };
+    match *counts {
         ["verdict", name, "moves", m, "steps", s, "words", w] => {
             ["model", "spent", "ended", "closed"].contains(&name) && number(m) && number(s) && number(w)
         }

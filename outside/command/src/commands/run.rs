@@ -6,7 +6,7 @@ use crate::problem::decoded;
 use std::fmt::Write;
 use std::path::PathBuf;
 use std::process::ExitCode;
-use walumpeh::Verdict;
+use walumpeh::{Answer, Verdict};
 
 /// Run a problem from a start along a tape, and print what tvrun prints
 ///
@@ -27,6 +27,9 @@ pub struct Args {
     /// The most moves, in place of the budget in the tape file
     #[arg(long)]
     budget: Option<u16>,
+    /// Tell at the end of the answer's line how many nodes were evaluated: ' evaluated E'
+    #[arg(long)]
+    evaluated: bool,
 }
 
 const STATUS: &str = "\
@@ -46,9 +49,7 @@ pub fn run(args: &Args) -> Result<ExitCode, Fault> {
             Err(Fault::at(at, refusal))
         }
         Ok(answer) => {
-            let (moves, steps, words) = (answer.moves, answer.steps, answer.words);
-            let mut text =
-                format!("verdict {} moves {moves} steps {steps} words {words}\n", answer.verdict.name());
+            let mut text = shown(&answer, args.evaluated) + "\n";
             let problem = decoded(&problem).map_err(|fault| Fault::at(&args.problem, fault))?;
             for id in problem.variables() {
                 writeln!(text, "{id} {}", values[id]).expect("text takes all");
@@ -56,6 +57,16 @@ pub fn run(args: &Args) -> Result<ExitCode, Fault> {
             print::text(&text)?;
             Ok(status(answer.verdict))
         }
+    }
+}
+
+/// The answer's line, with the nodes evaluated where they are asked for.
+pub fn shown(answer: &Answer, evaluated: bool) -> String {
+    let Answer { verdict, moves, steps, words, .. } = answer;
+    let line = format!("verdict {} moves {moves} steps {steps} words {words}", verdict.name());
+    match evaluated {
+        true => format!("{line} evaluated {}", answer.evaluated),
+        false => line,
     }
 }
 

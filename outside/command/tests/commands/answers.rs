@@ -29,6 +29,21 @@ fn every_verdict_has_its_status() {
     answers(&at, "run zero.tbv", 5, "verdict closed moves 0 steps 0 words 0\n0 0\n", "");
 }
 
+/// Where it is asked for, the answer's line ends with the nodes evaluated; export takes such an answer, too.
+#[test]
+fn nodes_evaluated_are_told_where_asked_for() {
+    let at = At::example("evaluated");
+    let model = "verdict model moves 1 steps 2 words 5 evaluated 8\n0 11\n";
+    answers(&at, "run --evaluated", 0, model, "");
+    let spent = "verdict spent moves 0 steps 0 words 0 evaluated 5\n0 0\n";
+    answers(&at, "run --budget 0 --evaluated", 3, spent, "");
+    at.write("answer", model);
+    assert!(at.printed("export problem.tbv --answer answer").contains("(assert (= n0 (_ bv11 4)))"));
+    at.write("bad", "verdict model moves 1 steps 2 words 5 evaluated\n0 11\n");
+    let fault = "'verdict model moves 1 steps 2 words 5 evaluated' is no verdict with its counts";
+    at.fails("export problem.tbv --answer bad", &format!("bad: line 1: {fault}"));
+}
+
 /// As tvrun: the budget is the first word modulo 65,536, spare bytes count nowhere, an empty file holds
 /// nothing.
 #[test]

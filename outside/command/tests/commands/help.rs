@@ -29,7 +29,7 @@ fn every_command_has_help() {
         ("build", ["--rootless", "root ok"]),
         ("need", ["--budget <BUDGET>", "longest chain H"]),
         ("tape", ["--uniform", "[default: 95]"]),
-        ("run", ["--budget", "3 spent, 4 ended, 5 closed"]),
+        ("run", ["--evaluated", "3 spent, 4 ended, 5 closed"]),
         ("export", ["--answer <FILE>", "--pin <ID=VALUE>"]),
         ("model", ["<NAMES>", "0 yes; 1 no; 2 nothing was judged"]),
         ("show", ["fixed bits", "<=="]),
