@@ -1,9 +1,11 @@
-//! Cost as the nodes grow from 16 to 1,024 and as the budget grows: both are to be linear.
+//! Cost as the nodes grow from 16 to 1,024, as the budget grows, and as more of 1,024 nodes are above the variable that moves
+//! set: all are to be linear.
 
 use crate::measure::{fastest, SIDES};
 use crate::plot::{plot, Series};
 use crate::workload::Workload;
-use generate::families::deep;
+use generate::families::{deep, spread};
+use model::Problem;
 use std::path::Path;
 
 pub fn table(rounds: usize, svg: Option<&Path>) -> Result<(), String> {
@@ -13,7 +15,7 @@ pub fn table(rounds: usize, svg: Option<&Path>) -> Result<(), String> {
         "nodes", "ns/move", "plain", "ns/node", "plain", "ratio"
     );
     let by_nodes = nodes.map(|size| {
-        let [library, plain, moves] = cost(rounds, size, 200);
+        let [library, plain, moves] = cost(rounds, &deep(3, size).problem, 200);
         let [library, plain] = [library / moves, plain / moves];
         println!(
             "{size:>6} {library:>12.1} {plain:>12.1}   {:>8.2} {:>8.2}   {:>5.2}",
@@ -28,7 +30,7 @@ pub fn table(rounds: usize, svg: Option<&Path>) -> Result<(), String> {
         "budget", "us/run", "plain", "ns/move", "plain", "ratio"
     );
     let by_budget = [25, 50, 100, 200, 400, 800].map(|budget| {
-        let [library, plain, moves] = cost(rounds, 256, budget);
+        let [library, plain, moves] = cost(rounds, &deep(3, 256).problem, budget);
         println!(
             "{budget:>6} {:>12.1} {:>12.1}   {:>8.1} {:>8.1}   {:>5.2}",
             library / 1000.0,
@@ -38,6 +40,21 @@ pub fn table(rounds: usize, svg: Option<&Path>) -> Result<(), String> {
             plain / library
         );
         [f64::from(budget), library / 1000.0, plain / 1000.0]
+    });
+    println!(
+        "{:>6} {:>12} {:>12}   {:>8} {:>8}   {:>5}",
+        "above", "ns/move", "plain", "ns/node", "plain", "ratio"
+    );
+    let by_above = [3, 64, 128, 256, 384, 512, 768, 1020].map(|above| {
+        let [library, plain, moves] = cost(rounds, &spread(above), 1000);
+        let [library, plain] = [library / moves, plain / moves];
+        println!(
+            "{above:>6} {library:>12.1} {plain:>12.1}   {:>8.2} {:>8.2}   {:>5.2}",
+            library / above as f64,
+            plain / above as f64,
+            plain / library
+        );
+        [above as f64, library, plain]
     });
     let Some(svg) = svg else {
         return Ok(());
@@ -57,14 +74,19 @@ pub fn table(rounds: usize, svg: Option<&Path>) -> Result<(), String> {
             "moves",
             &[series("library", &by_budget, 1), series("plain Rust", &by_budget, 2)],
         ),
+        (
+            "Nanoseconds a move by what is above its variable",
+            "of 1,024 nodes",
+            &[series("library", &by_above, 1), series("plain Rust", &by_above, 2)],
+        ),
     ]);
     std::fs::write(svg, drawn).map_err(|fault| format!("{}: {fault}", svg.display()))
 }
 
 /// Nanoseconds of a run by the library and by plain Rust, and its moves.
-fn cost(rounds: usize, size: usize, budget: u16) -> [f64; 3] {
+fn cost(rounds: usize, problem: &Problem, budget: u16) -> [f64; 3] {
     const RUNS: u64 = 4;
-    let mut workload = Workload::new(&deep(3, size), RUNS, budget);
+    let mut workload = Workload::new(problem, RUNS, budget);
     let moves = workload.amount().moves;
     let [library, plain] = fastest(rounds, workload.runs(), |side, run| workload.run(SIDES[side].1, run));
     [library / RUNS as f64, plain / RUNS as f64, moves as f64 / RUNS as f64]

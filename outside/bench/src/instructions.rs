@@ -21,7 +21,7 @@ pub fn table() -> Result<(), String> {
     );
     for name in FAMILIES {
         let workload = family(name).expect("a family");
-        let evaluated = (workload.amount().passes * workload.nodes as u64) as f64;
+        let evaluated = workload.amount().evaluated as f64;
         let [library, plain] = [count(SIDES[0].0, name)?, count(SIDES[1].0, name)?];
         println!(
             "{name:9} {library:>14.0} {plain:>14.0}   {:>14.2} {:>8.2}   {:>5.2}",

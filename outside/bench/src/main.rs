@@ -1,5 +1,7 @@
 //! The benchmarks' command line.
 
+mod above;
+mod before;
 mod growth;
 mod instructions;
 mod measure;
@@ -25,9 +27,13 @@ use std::process::ExitCode;
 enum Line {
     /// Moves a second and nanoseconds a node, beside plain Rust, by family
     Runs(Rounds),
+    /// What the index of readers is worth, by family: beside plain Rust with it and without, and an older build
+    ///
+    /// The older build is linked where WALUMPEH_BEFORE names its archive when this program is built.
+    Above(Rounds),
     /// Nanoseconds a pick of each kind and set, beside plain Rust
     Picks(Rounds),
-    /// Cost as the nodes and as the budget grow; a plot where asked for
+    /// Cost as the nodes, the budget and what is above a variable grow; a plot where asked for
     Growth {
         #[command(flatten)]
         rounds: Rounds,
@@ -81,6 +87,7 @@ fn main() -> ExitCode {
 fn measure(line: &Line) -> Result<(), String> {
     match line {
         Line::Runs(Rounds { rounds }) => runs::table(*rounds),
+        Line::Above(Rounds { rounds }) => above::table(*rounds),
         Line::Picks(Rounds { rounds }) => picks::table(*rounds),
         Line::Growth { rounds, svg } => growth::table(rounds.rounds, svg.as_deref())?,
         Line::Models(Rounds { rounds }) => models::table(*rounds)?,

@@ -1,18 +1,22 @@
-//! Two sides measured in turns, so that what slows the machine slows both.
+//! Several sides measured in turns, so that what slows the machine slows all.
 
 use std::time::Instant;
 
-/// The run as both sides have it.
+/// The run as all sides have it.
 pub type Run = fn(&[u8], &mut [u64], &[u64], u16, &mut [u64]) -> u64;
 
 /// The proved library and plain Rust, by name.
 pub const SIDES: [(&str, Run); 2] = [("library", walumpeh::raw::run), ("plain", plain::calls::run)];
 
-/// Nanoseconds of a work for each of the two sides, on the same memory. The work is cut into parts,
-/// short enough to run undisturbed now and then; each counts by the fastest of `rounds` rounds in
-/// which the sides take turns, after one round that does not count.
-pub fn fastest(rounds: usize, parts: usize, mut work: impl FnMut(usize, usize)) -> [f64; 2] {
-    let mut best = [vec![f64::INFINITY; parts], vec![f64::INFINITY; parts]];
+/// Nanoseconds of a work for each side, on the same memory. The work is cut into parts, short enough to run
+/// undisturbed now and then; each counts by the fastest of `rounds` rounds in which the sides take turns, after one
+/// round that does not count.
+pub fn fastest<const COUNT: usize>(
+    rounds: usize,
+    parts: usize,
+    mut work: impl FnMut(usize, usize),
+) -> [f64; COUNT] {
+    let mut best = [(); COUNT].map(|()| vec![f64::INFINITY; parts]);
     for round in 0..=rounds {
         for part in 0..parts {
             for (side, best) in best.iter_mut().enumerate() {

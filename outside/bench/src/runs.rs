@@ -13,7 +13,7 @@ pub fn table(rounds: usize) {
         let (amount, nodes) = (workload.amount(), workload.nodes);
         let [library, plain] = fastest(rounds, workload.runs(), |side, run| workload.run(SIDES[side].1, run));
         let per_second = |time: f64| amount.moves as f64 * 1e9 / time;
-        let per_node = |time: f64| time / (amount.passes * nodes as u64) as f64;
+        let per_node = |time: f64| time / amount.evaluated as f64;
         println!(
             "{name:9} {nodes:>5} {:>6} {:>6}   {:>12.0} {:>12.0}   {:>8.2} {:>8.2}   {:>5.2}",
             amount.moves,
