@@ -1,12 +1,22 @@
 //! Instructions of each family's runs, counted by valgrind, which do not vary from run to run.
 
-use crate::measure::SIDES;
-use crate::workload::{family, FAMILIES};
+use crate::before;
+use crate::measure::{Run, SIDES};
+use crate::workload::{family, ABOVE, FAMILIES};
 use std::process::Command;
 
+/// A side by its name: the two of every table, plain Rust that evaluates all nodes after each move, and the older build.
+fn side(name: &str) -> Option<Run> {
+    match name {
+        "plain-all" => Some(plain::calls::run_all),
+        "before" => before::run(),
+        _ => SIDES.into_iter().find(|(other, _)| *other == name).map(|(_, run)| run),
+    }
+}
+
 /// The runs of a family by one side, some times over.
-pub fn work(side: &str, name: &str, times: usize) -> Result<(), String> {
-    let (_, run) = SIDES.into_iter().find(|(other, _)| *other == side).ok_or(format!("no side '{side}'"))?;
+pub fn work(side_name: &str, name: &str, times: usize) -> Result<(), String> {
+    let run = side(side_name).ok_or(format!("no side '{side_name}'"))?;
     let mut workload = family(name).ok_or(format!("no family '{name}'"))?;
     for _ in 0..times {
         (0..workload.runs()).for_each(|index| workload.run(run, index));
@@ -28,6 +38,33 @@ pub fn table() -> Result<(), String> {
             library / evaluated,
             plain / evaluated,
             plain / library
+        );
+    }
+    Ok(())
+}
+
+/// Instructions a move on the families of `above`, and the ratios to the other sides.
+pub fn table_above() -> Result<(), String> {
+    println!(
+        "{:13} {:>9} {:>9} {:>9} {:>9}   {:>8} {:>8} {:>9}",
+        "family", "a move", "plain", "plain-all", "before", "to-plain", "to-all", "to-before"
+    );
+    for name in ABOVE {
+        let workload = family(name).expect("a family");
+        let moves = (workload.amount().moves * workload.again as u64) as f64;
+        let per_move = |side: &str| count(side, name).map(|instructions| instructions / moves);
+        let [library, plain, all] = [per_move("library")?, per_move("plain")?, per_move("plain-all")?];
+        let (before, to_before) = match before::run() {
+            Some(_) => {
+                let before = per_move("before")?;
+                (format!("{before:.0}"), format!("{:.2}", before / library))
+            }
+            None => ("-".into(), "-".into()),
+        };
+        println!(
+            "{name:13} {library:>9.0} {plain:>9.0} {all:>9.0} {before:>9}   {:>8.2} {:>8.2} {to_before:>9}",
+            plain / library,
+            all / library
         );
     }
     Ok(())

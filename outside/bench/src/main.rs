@@ -43,7 +43,11 @@ enum Line {
     /// Reading another solver's model: 1,024 entries against 1,024 names, and as the text grows
     Models(Rounds),
     /// Instructions of each family's runs, counted by valgrind
-    Instructions,
+    Instructions {
+        /// Of the families of above, with the older build where one is linked
+        #[arg(long)]
+        above: bool,
+    },
     /// Moves to a model by the share of words e that ask for the inverse
     Share,
     /// Models found and moves to them, by how proposals are drawn
@@ -60,7 +64,7 @@ enum Line {
         #[arg(long, default_value_t = 10)]
         seconds: u64,
     },
-    /// The runs of a family some times over, by library or plain: for counting
+    /// The runs of a family some times over, by library, plain, plain-all or before: for counting
     Work { side: String, family: String, times: usize },
 }
 
@@ -91,7 +95,8 @@ fn measure(line: &Line) -> Result<(), String> {
         Line::Picks(Rounds { rounds }) => picks::table(*rounds),
         Line::Growth { rounds, svg } => growth::table(rounds.rounds, svg.as_deref())?,
         Line::Models(Rounds { rounds }) => models::table(*rounds)?,
-        Line::Instructions => instructions::table()?,
+        Line::Instructions { above: true } => instructions::table_above()?,
+        Line::Instructions { above: false } => instructions::table()?,
         Line::Share => share::table(),
         Line::Moves { tapes, budget } => moves::table(*tapes, *budget),
         Line::Solve { seconds } => solve::table(*seconds)?,
