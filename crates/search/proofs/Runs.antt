@@ -11,19 +11,19 @@ use Rattle.problem.specs.declared.Checked.{Checked}
 use Rattle.problem.specs.declared.Checked.the-variants.{Accepted, Refused}
 use Rattle.problem.specs.declared.Refusal.{Refusal}
 use Rattle.problem.specs.Layout.{nodeCount}
-use Rattle.problem.specs.Refusals.{refusal, firstOf, _then_, firstBelow, checked}
-use Rattle.problem.specs.laws.Tests.{lt-no}
-use Rattle.problem.specs.laws.First.{then-left, then-right, then-accepted, then-refused, none-of}
+use Rattle.problem.specs.Refusals.{refusal, firstOf, _then_, checked}
+use Rattle.problem.specs.laws.First.{then-left, then-right, then-refused}
 use Rattle.search.specs.declared.Verdict.{Verdict}
 use Rattle.search.specs.declared.Answer.{Answer}
 use Rattle.evaluation.specs.Problem.{problem, evaluate}
 use Rattle.search.specs.declared.moves.Turn.the-variants.{Finished, Unfinished}
 use Rattle.search.specs.Run.{ClosedRoot, Unsatisfied, AllOne, answer, Run, Run.model, Run.spent, Run.ended, Run.moved, Run.held}
-use Rattle.search.specs.Call.{placesFault, startFault, refusals}
+use Rattle.search.specs.Call.{placesFault, refusals}
 use Rattle.evaluation.specs.inner.Good.{Good, Held}
 use Rattle.evaluation.specs.laws.Good.{good-of}
 use Rattle.evaluation.specs.laws.Values.{held-evaluate}
 use Rattle.search.specs.promises.Accepted.{accepted-start}
+use Rattle.search.specs.laws.Starts.{places-right}
 use Rattle.search.specs.laws.Moves.{move-lands}
 use Rattle.search.specs.laws.Runs.{kept-after}
 use Rattle.evaluation.specs.inner.Evaluation.{Assigned, Filled}
@@ -140,37 +140,30 @@ unindexed n a h = record { accepted = a; room = rw (length-replicate {A = ℕ} n
 
 -- ---- refusals of a call
 
-then-assoc : (x y z : Checked) → ((x then y) then z) ≡ (x then y then z)
+pub then-assoc : (x y z : Checked) → ((x then y) then z) ≡ (x then y then z)
 unfolding _then_
 then-assoc Accepted y z = refl
 then-assoc (Refused r) y z = refl
 
-module _ (s vs : List ℕ) (x y : Checked) (n : ℕ) (e : x ≡ checked s) (q : n ≡ nodeCount s)
-    (h : y ≡ (x then cond (ltb (length vs) n) (refusal 14 0) Accepted)) where
-  -- what the problem check and line 14 give
-  first-two : y ≡ (checked s then placesFault s vs)
-  unfolding placesFault firstOf
-  first-two = h ∙ rw (e, q)
+-- the problem check and line 14, from the answers of both
+pub first-two :
+    (s vs : List ℕ) {x y : Checked} {n : ℕ}
+    → x ≡ checked s
+    → n ≡ nodeCount s
+    → y ≡ (x then cond (ltb (length vs) n) (refusal 14 0) Accepted)
+    → y ≡ (checked s then placesFault s vs)
+unfolding placesFault firstOf
+first-two s vs e q h = h ∙ rw (e, q)
 
-  rest : Checked
-  rest = firstBelow (startFault s vs) (nodeCount s)
-
-  all : refusals s vs ≡ (y then rest)
-  unfolding refusals rest
-  all = sym (then-assoc (checked s) _ _) ∙ rw first-two
-
+module _ (s vs : List ℕ) {y : Checked} (h : y ≡ (checked s then placesFault s vs)) where
   pub lent-of : y ≡ Accepted → Lent s vs
-  unfolding placesFault
   lent-of a =
-      let b = sym first-two ∙ a in
-      record { accepted = then-left (checked s) _ b; places = lt-no (length vs) (nodeCount s) .0 (none-of 0 _ (then-right (checked s) _ b) .0) }
+      let b = sym h ∙ a in
+      record { accepted = then-left (checked s) _ b; places = places-right s vs .0 (then-right (checked s) _ b) }
 
-  pub refused-of : (r : Refusal) → y ≡ Refused r → y ≡ refusals s vs
-  refused-of r z = z ∙ sym (all ∙ then-refused y rest r z)
-
-  pub refusals-of : y ≡ Accepted → (f : Checked) → f ≡ firstBelow (startFault s vs) (nodeCount s) → f ≡ refusals s vs
-  unfolding rest
-  refusals-of a f z = z ∙ sym (all ∙ then-accepted y rest a)
+  pub refused-of : (r : Refusal) → y ≡ Refused r → refusals s vs ≡ Refused r
+  unfolding refusals
+  refused-of r e = sym (then-assoc (checked s) (placesFault s vs) _) ∙ then-refused _ _ r (sym h ∙ e)
 
 -- ---- a call that is not refused
 

@@ -1,10 +1,12 @@
--- The paper's number, place and name of what a run answers, for each case.
-use Prim.Native.Nat.{ℕ}
+-- The paper's number, place and name of what a run answers, for each case; and an answer as words, where no record can stand.
+use mathlib.Core.List.{List, [], _∷_}
+use Prim.Native.Nat.{ℕ, _+_, _*_}
 use Prim.Native.String.{String}
 use Rattle.search.specs.declared.Verdict.{Verdict}
 use Rattle.search.specs.declared.Verdict.the-variants.{Model, Spent, Ended, Closed}
 use Rattle.search.specs.declared.Outcome.{Outcome}
 use Rattle.search.specs.declared.Outcome.the-variants.{Refused, Settled}
+use Rattle.search.specs.declared.Answer.{Answer}
 
 -- "a refusal with its number and place, or a verdict", of which both are 0
 abbrev pub numberOf : Outcome → ℕ
@@ -33,3 +35,22 @@ verdictNumber Model = 0
 verdictNumber Spent = 1
 verdictNumber Ended = 2
 verdictNumber Closed = 3
+
+-- 0 model, 1 spent, 2 ended, 3 closed, 4 refused
+abbrev pub verdictCode : Outcome → ℕ
+verdictCode (Settled v) = verdictNumber v
+verdictCode (Refused r) = 4
+
+-- a refusal as one number: the paper's number in the low 8 bits, the place above; 0 where there is none
+abbrev pub refusalCode : ℕ → ℕ → ℕ
+refusalCode number place = number + 256 * place
+
+abbrev pub outcomeCode : Outcome → ℕ
+outcomeCode o = refusalCode (numberOf o) (placeOf o)
+
+-- an answer as words: its refusal, verdict, moves, steps, words and nodes evaluated
+abbrev pub answerWords : ℕ
+answerWords = 6
+
+abbrev pub told : Answer → List ℕ
+told a = outcomeCode (a .outcome) ∷ verdictCode (a .outcome) ∷ a .moves ∷ a .steps ∷ a .words ∷ a .evaluated ∷ []

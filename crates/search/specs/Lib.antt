@@ -3,6 +3,7 @@ pub mod Step
 pub mod Run
 pub mod Call
 pub mod Answers
+pub mod Batch
 pub mod Reach
 pub mod Steps
 pub mod Needed

@@ -1,5 +1,6 @@
 -- What is promised, as theorems over all that the contracts allow.
 pub mod Accepted
+pub mod Batch
 pub mod Demands
 pub mod Determined
 pub mod More

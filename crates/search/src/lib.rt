@@ -1,18 +1,28 @@
 // The run of document 01, an entry point: steps, moves, and whole runs.
 ghost use mathlib.Core.Path.{_≡_};
 ghost use Prim.Native.Nat.{_+_, _*_};
+ghost use Rattle.evaluation.specs.inner.Evaluation.{Filled};
 ghost use Rattle.evaluation.specs.inner.Readers.{Indexed};
 ghost use Rattle.search.specs.Run.{answer};
-ghost use Rattle.search.specs.Call.{Called};
+ghost use Rattle.search.specs.Call.{refused, Called};
 ghost use Rattle.search.specs.Needed.{Needed};
-ghost use Rattle.search.specs.inner.Run.{Searching, Searched};
+ghost use Rattle.search.specs.inner.Run.{Searching, Searched, Lent};
+ghost use Rattle.search.specs.inner.Batch.{Prepared};
 
+mod answers;
+mod batches;
 mod heights;
 mod moves;
 mod roots;
 mod starts;
 mod step;
 
+pub use answers::outcome_code;
+pub use answers::refusal_code;
+pub use answers::verdict_code;
+pub use batches::batch;
+pub use batches::batch_refusal;
+pub use batches::run_starts;
 use evaluation::evaluate;
 use evaluation::fill;
 use evaluation::index_readers;
@@ -27,7 +37,8 @@ use problem::check;
 use problem::node_count;
 use roots::closed_root;
 use roots::count_unsatisfied;
-use starts::refusal_of;
+use starts::lent_fault;
+use starts::starts_fault;
 
 // How a run that is not refused ends.
 pub enum Verdict {
@@ -104,8 +115,47 @@ fn search(
     }
 }
 
-// The search with its index of readers. 512 slots serve 128 nodes: to clear 4,096 would cost short runs on few nodes.
-fn search_indexed(
+// A refusal: "has all counts 0".
+fn turned_away(refusal: Refusal) -> Answer
+    ensures { λ r. ⌜ r ≡ refused refusal ⌝ }
+{
+    Answer {
+        moves: 0,
+        steps: 0,
+        words: 0,
+        evaluated: 0,
+        outcome: Outcome::Refused(refusal),
+    }
+}
+
+// A start, where the problem is accepted and the places are there: 15, which leaves them as they were; or all nodes evaluated, and
+// the search.
+pub(crate) fn run_one(
+    bytes: &[u8],
+    los: &[u64; 1024],
+    his: &[u64; 1024],
+    slots: &[u16],
+    closed: bool,
+    values: &mut [u64],
+    tape: &[u64],
+    budget: u16,
+) -> Answer
+    requires { ⌜ Prepared (now bytes) (now los) (now his) (now slots) closed × Lent (now bytes) (now values) ⌝ }
+    ensures { λ r. ⌜ Called (now (bytes .entry)) (now (values .entry)) (now (tape .entry)) budget (now (values .exit)) r ⌝ }
+{
+    let found = starts_fault(bytes, values);
+    if let Checked::Refused(refusal) = found {
+        return turned_away(refusal);
+    }
+    evaluate(bytes, values);
+    if closed {
+        return settled(0, 0, 0, node_count(bytes) as u64, Verdict::Closed);
+    }
+    search(bytes, los, his, slots, values, tape, budget)
+}
+
+// A start with its index of readers. 512 slots serve 128 nodes: to clear 4,096 would cost short runs on few nodes.
+fn run_indexed(
     bytes: &[u8],
     los: &[u64; 1024],
     his: &[u64; 1024],
@@ -113,41 +163,32 @@ fn search_indexed(
     tape: &[u64],
     budget: u16,
 ) -> Answer
-    requires { ⌜ Searching (now bytes) (now los) (now his) (now values) ⌝ }
-    ensures { λ r. ⌜ Searched (now (bytes .entry)) (now (values .entry)) (now (tape .entry)) budget (now (values .exit)) r ⌝ }
+    requires { ⌜ Filled (now bytes) (now los) (now his) × Lent (now bytes) (now values) ⌝ }
+    ensures { λ r. ⌜ Called (now (bytes .entry)) (now (values .entry)) (now (tape .entry)) budget (now (values .exit)) r ⌝ }
 {
+    let closed = closed_root(bytes, los, his);
     if node_count(bytes) <= 128 {
         let mut slots = [0u16; 512];
         index_readers(bytes, &mut slots);
-        return search(bytes, los, his, &slots, values, tape, budget);
+        return run_one(bytes, los, his, &slots, closed, values, tape, budget);
     }
     let mut slots = [0u16; 4096];
     index_readers(bytes, &mut slots);
-    search(bytes, los, his, &slots, values, tape, budget)
+    run_one(bytes, los, his, &slots, closed, values, tape, budget)
 }
 
-// A whole call: a refusal, which leaves every place as it was; or all nodes evaluated, and the search.
+// A whole call: a refusal, which leaves every place as it was; or the run.
 pub fn run(problem: &[u8], values: &mut [u64], tape: &[u64], budget: u16) -> Answer
     ensures { λ r. ⌜ Called (now (problem .entry)) (now (values .entry)) (now (tape .entry)) budget (now (values .exit)) r ⌝ }
 {
-    let found = refusal_of(problem, values);
+    let found = lent_fault(problem, values);
     if let Checked::Refused(refusal) = found {
-        return Answer {
-            moves: 0,
-            steps: 0,
-            words: 0,
-            evaluated: 0,
-            outcome: Outcome::Refused(refusal),
-        };
+        return turned_away(refusal);
     }
     let mut los = [0u64; 1024];
     let mut his = [0u64; 1024];
     fill(problem, &mut los, &mut his);
-    evaluate(problem, values);
-    if closed_root(problem, &los, &his) {
-        return settled(0, 0, 0, node_count(problem) as u64, Verdict::Closed);
-    }
-    search_indexed(problem, &los, &his, values, tape, budget)
+    run_indexed(problem, &los, &his, values, tape, budget)
 }
 
 // What a problem asks of a tape: H, the words for a budget, and what the problem check found.

@@ -3,8 +3,8 @@ ghost use mathlib.Core.Path.{_≡_};
 ghost use Prim.Native.Nat.{_<_};
 ghost use Rattle.problem.specs.declared.Checked.the-variants.{Accepted};
 ghost use Rattle.problem.specs.Layout.{nodeCount};
-ghost use Rattle.problem.specs.Refusals.{firstBelow};
-ghost use Rattle.search.specs.Call.{startFault, refusals};
+ghost use Rattle.problem.specs.Refusals.{_then_, firstBelow, checked};
+ghost use Rattle.search.specs.Call.{placesFault, startFault};
 ghost use Rattle.search.specs.inner.Run.{Lent};
 use problem::Checked;
 use problem::check;
@@ -24,7 +24,7 @@ fn start_fault(bytes: &[u8], values: &[u64], i: u16) -> Checked
 }
 
 // 15, by ascending id.
-fn starts_fault(bytes: &[u8], values: &[u64]) -> Checked
+pub(crate) fn starts_fault(bytes: &[u8], values: &[u64]) -> Checked
     requires { ⌜ Lent (now bytes) (now values) ⌝ }
     ensures { λ r. ⌜ r ≡ firstBelow (startFault (now (bytes .entry)) (now (values .entry))) (nodeCount (now (bytes .entry))) ⌝ }
 {
@@ -40,14 +40,10 @@ fn starts_fault(bytes: &[u8], values: &[u64]) -> Checked
     Checked::Accepted
 }
 
-// The first refusal of a call, or that there is none.
-pub(crate) fn refusal_of(bytes: &[u8], values: &[u64]) -> Checked
-    ensures { λ r. ⌜ r ≡ refusals (now (bytes .entry)) (now (values .entry)) ⌝ }
+// 1 to 13, 16 and 20, then 14.
+pub(crate) fn lent_fault(bytes: &[u8], values: &[u64]) -> Checked
+    ensures { λ r. ⌜ r ≡ (checked (now (bytes .entry)) then placesFault (now (bytes .entry)) (now (values .entry))) ⌝ }
 {
     let short = values.len() < node_count(bytes) as usize;
-    let found = line(check(bytes), 14, short, 0);
-    let Checked::Accepted = found else {
-        return found;
-    };
-    starts_fault(bytes, values)
+    line(check(bytes), 14, short, 0)
 }

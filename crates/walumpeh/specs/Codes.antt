@@ -1,22 +1,14 @@
 -- What every call but the two picks answers, as a number: 0 where nothing is refused, else the refusal's number + 256 x its place.
-use Prim.Native.Nat.{ℕ, _+_, _-_, _*_, _^_, min}
+use Prim.Native.Nat.{ℕ, _-_, _^_, min}
 use Rattle.problem.specs.declared.Checked.{Checked}
 use Rattle.problem.specs.Refusals.{numberOf as checkedNumber, placeOf as checkedPlace}
-use Rattle.search.specs.declared.Outcome.{Outcome}
-use Rattle.search.specs.Answers.{numberOf, placeOf}
+use Rattle.search.specs.Answers.{refusalCode}
 use Rattle.models.specs.declared.Judged.{Judged}
 use Rattle.models.specs.Answers.{numberOf as judgedNumber, placeOf as judgedPlace}
 
--- the paper's number in the low 8 bits, the place above
-abbrev pub refusalCode : ℕ → ℕ → ℕ
-refusalCode number place = number + 256 * place
-
--- of the problem check's answer, and of a run's
+-- of the problem check's answer (a run's is `outcomeCode` of `search`)
 abbrev pub checkedCode : Checked → ℕ
 checkedCode c = refusalCode (checkedNumber c) (checkedPlace c)
-
-abbrev pub outcomeCode : Outcome → ℕ
-outcomeCode o = refusalCode (numberOf o) (placeOf o)
 
 -- of a judgement: the place may be an entry's position in a text of any length, and the last place that 56 bits hold stands for
 -- those beyond it

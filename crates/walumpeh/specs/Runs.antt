@@ -2,17 +2,10 @@
 use mathlib.Core.List.{List}
 use Prim.Native.Nat.{ℕ, _≤_, _<_}
 use lib.ListN.{length, set}
-use Rattle.search.specs.declared.Outcome.{Outcome}
-use Rattle.search.specs.declared.Outcome.the-variants.{Refused, Settled}
 use Rattle.search.specs.declared.Answer.{Answer}
-use Rattle.search.specs.Answers.{verdictNumber}
+use Rattle.search.specs.Answers.{verdictCode, outcomeCode}
 use Rattle.search.specs.Call.{Called}
-use Rattle.walumpeh.specs.Codes.{outcomeCode, tooShort}
-
--- 0 model, 1 spent, 2 ended, 3 closed, 4 refused
-abbrev pub verdictCode : Outcome → ℕ
-verdictCode (Settled v) = verdictNumber v
-verdictCode (Refused r) = 4
+use Rattle.walumpeh.specs.Codes.{tooShort}
 
 -- the verdict and the counts in the first places, of which so many are counted on
 abbrev pub counted : ℕ

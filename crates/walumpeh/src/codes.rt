@@ -1,21 +1,15 @@
 // What every call but the two picks answers: 0 where nothing is refused, else the refusal's number + 256 times its place.
 ghost use mathlib.Core.Path.{_≡_};
 ghost use Prim.Native.Nat.{min};
-ghost use Rattle.walumpeh.specs.Codes.{refusalCode, checkedCode, outcomeCode, lastPlace, judgedCode};
+ghost use Rattle.search.specs.Answers.{refusalCode};
+ghost use Rattle.walumpeh.specs.Codes.{checkedCode, lastPlace, judgedCode};
 use models::Fault;
 use models::Judged;
 use problem::Checked;
-use problem::Refusal;
-use search::Outcome;
+use search::refusal_code;
 
 // Answered, before anything is done, where an array lent for the answer is too short: no refusal has this number.
 pub(crate) const TOO_SHORT: u64 = 255;
-
-fn refusal_code(why: Refusal) -> u64
-    ensures { λ r. ⌜ r ≡ refusalCode (why .number) (why .place) ⌝ }
-{
-    (why.number as u64) + 256 * (why.place as u64)
-}
 
 pub(crate) fn checked_code(answer: Checked) -> u64
     ensures { λ r. ⌜ r ≡ checkedCode answer ⌝ }
@@ -23,15 +17,6 @@ pub(crate) fn checked_code(answer: Checked) -> u64
     match answer {
         Checked::Accepted => 0,
         Checked::Refused(why) => refusal_code(why),
-    }
-}
-
-pub(crate) fn outcome_code(outcome: Outcome) -> u64
-    ensures { λ r. ⌜ r ≡ outcomeCode outcome ⌝ }
-{
-    match outcome {
-        Outcome::Settled(_) => 0,
-        Outcome::Refused(why) => refusal_code(why),
     }
 }
 

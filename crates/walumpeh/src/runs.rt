@@ -1,35 +1,12 @@
 // The run, as numbers.
 use crate::codes::TOO_SHORT;
-use crate::codes::outcome_code;
 use search::Answer;
-use search::Outcome;
-use search::Verdict;
+use search::outcome_code;
+use search::verdict_code;
 ghost use mathlib.Core.Path.{_≡_};
 ghost use Prim.Native.Nat.{_≤_};
 ghost use lib.ListN.{length};
-ghost use Rattle.search.specs.Answers.{verdictNumber};
-ghost use Rattle.walumpeh.specs.Runs.{verdictCode, counted, reported, RunCode};
-
-fn verdict_number(v: Verdict) -> u64
-    ensures { λ r. ⌜ r ≡ verdictNumber v ⌝ }
-{
-    match v {
-        Verdict::Model => 0,
-        Verdict::Spent => 1,
-        Verdict::Ended => 2,
-        Verdict::Closed => 3,
-    }
-}
-
-// 0 model, 1 spent, 2 ended, 3 closed, 4 refused.
-fn verdict_code(o: Outcome) -> u64
-    ensures { λ r. ⌜ r ≡ verdictCode o ⌝ }
-{
-    match o {
-        Outcome::Settled(v) => verdict_number(v),
-        Outcome::Refused(_) => 4,
-    }
-}
+ghost use Rattle.walumpeh.specs.Runs.{counted, reported, RunCode};
 
 // The verdict and the counts, stored in the first places of out.
 fn report(a: Answer, out: &mut [u64])

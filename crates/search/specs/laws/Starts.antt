@@ -30,22 +30,21 @@ agree-right lo hi v =
 one-line : (p k : ℕ) (t : Bool) → (firstOf p ((k, t) ∷ []) ≡ Accepted) ↔ (t ≡ false)
 one-line p k t = (λ h. none-of p ((k, t) ∷ []) h .0, λ e. of-none p ((k, t) ∷ []) (e, tt))
 
+-- a table of one line says what its test says
+pub one-line-is : {A : Type 0} (p k : ℕ) (t : Bool) → (t ≡ false) ↔ A → (firstOf p ((k, t) ∷ []) ≡ Accepted) ↔ A
+one-line-is p k t e = let l = one-line p k t in (λ h. e .0 (l .0 h), λ a. l .1 (e .1 a))
+
 module _ (s start : List ℕ) where
   pub places-right : (placesFault s start ≡ Accepted) ↔ (nodeCount s ≤ length start)
   unfolding placesFault
-  places-right =
-      let l = one-line 0 14 _ in
-      let e = lt-no (length start) (nodeCount s) in (λ h. e .0 (l .0 h), λ h. l .1 (e .1 h))
+  places-right = one-line-is 0 14 _ (lt-no (length start) (nodeCount s))
 
   pub start-right :
       (i : ℕ)
       → (startFault s start i ≡ Accepted)
       ↔ (nodeAt s i .kind ≡ 0 → Agrees (nodeAt s i .lo) (nodeAt s i .hi) (getD start i 0))
   unfolding startFault
-  start-right i =
-      let l = one-line i 15 _ in
-      let e = and-no (eq-yes (nodeAt s i .kind) 0) (agree-right (nodeAt s i .lo) (nodeAt s i .hi) (getD start i 0)) in
-      (λ h. e .0 (l .0 h), λ h. l .1 (e .1 h))
+  start-right i = one-line-is i 15 _ (and-no (eq-yes (nodeAt s i .kind) 0) (agree-right (nodeAt s i .lo) (nodeAt s i .hi) (getD start i 0)))
 
 -- two starts with the same variables
 first-same : (f g : ℕ → Checked) (n : ℕ) → ((i : ℕ) → i < n → f i ≡ g i) → firstBelow f n ≡ firstBelow g n

@@ -57,10 +57,10 @@ module _ (s start : List ℕ) (e : refusals s start ≡ Accepted) where
   concluded {B = B} w = whole-concluded (problem s) good B w room (accepts .agrees)
 
 -- a refusal is no verdict, and each is one
-clash : {o : Outcome} {r : Refusal} {v : Verdict} → o ≡ Outcome.Refused r → o ≡ Outcome.Settled v → ⊥
+pub clash : {o : Outcome} {r : Refusal} {v : Verdict} → o ≡ Outcome.Refused r → o ≡ Outcome.Settled v → ⊥
 clash p q = let z : _≡_ {A = ℕ} 0 1 = cc in omega arith
 
-same-outcome : {r r′ : Refusal} → Outcome.Refused r ≡ Outcome.Refused r′ → r ≡ r′
+pub same-outcome : {r r′ : Refusal} → Outcome.Refused r ≡ Outcome.Refused r′ → r ≡ r′
 same-outcome p = cc
 
 -- an outcome that is a verdict is called by the name of another exactly if it is that one

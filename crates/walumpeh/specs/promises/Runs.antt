@@ -14,10 +14,11 @@ use Rattle.problem.specs.Refusals.{numberOf as checkedNumber, checked}
 use Rattle.problem.specs.laws.First.{then-each, first-of-each, first-below-each}
 use Rattle.problem.specs.promises.Numbers.{numbered}
 use Rattle.search.specs.declared.Answer.{Answer}
+use Rattle.search.specs.Answers.{outcomeCode}
 use Rattle.search.specs.Call.{placesFault, startFault, refusals}
 use Rattle.search.specs.promises.Demands.{demand-1}
 use Rattle.search.specs.promises.Determined.{run-determined}
-use Rattle.walumpeh.specs.Codes.{outcomeCode, tooShort}
+use Rattle.walumpeh.specs.Codes.{tooShort}
 use Rattle.walumpeh.specs.Runs.{counted, reported, RunCode, RunCode.no-room, RunCode.called}
 
 pub wal-run-determined :

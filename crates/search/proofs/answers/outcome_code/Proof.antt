@@ -1,9 +1,9 @@
 -- The code goes by what the outcome is.
 use mathlib.Core.Path.{sym, ap, _∙_}
-use Rattle.walumpeh.specs.Codes.{outcomeCode}
+use Rattle.search.specs.Answers.{outcomeCode}
 use borrow.Author.Needs.{needs}
-use Rattle.walumpeh.proofs.codes.outcome_code.Statement.{statement}
-use Rattle.walumpeh.proofs.codes.outcome_code.Tie as tie
+use Rattle.search.proofs.answers.outcome_code.Statement.{statement}
+use Rattle.search.proofs.answers.outcome_code.Tie as tie
 
 enum-told : tie.Need-enum-told
 enum-told c = search needs
