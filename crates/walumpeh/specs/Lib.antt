@@ -5,5 +5,6 @@ pub mod Calls
 pub mod Needs
 pub mod Judgements
 pub mod Runs
+pub mod Batches
 pub mod promises
 pub mod laws

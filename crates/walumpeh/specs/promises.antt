@@ -1,4 +1,5 @@
 -- What is promised, as theorems over all that the contracts allow.
+pub mod Batches
 pub mod Determined
 pub mod Had
 pub mod Judgements
