@@ -12,7 +12,10 @@ enum { NODES = 1024, ROOTS = 256, LENGTH = 9 + 24 * NODES + 2 * ROOTS, WORDS = 1
 enum { ROOM = 1 << 20, MARK = 0xa5 };
 
 static uint8_t problem[LENGTH] = {'T', 'B', 'V', 1, 0, NODES & 255, NODES >> 8, ROOTS & 255, ROOTS >> 8};
+enum { STARTS = 3 };
 static uint64_t values[NODES], tape[WORDS], out[WAL_RUN_OUT];
+static uint64_t places[STARTS * NODES], lengths[STARTS] = {30000, 30000, 40000}, answers[STARTS * WAL_ANSWER];
+static uint16_t budgets[STARTS] = {300, 0, 300};
 static uint64_t spot[12] = {64, 64, 0, 0, 0, 0, ~0ull, ~0ull, 0, 3, 5, 0};
 static uint64_t narrow[12] = {16, 16, 0, 0, 0, 0, 65535, 65535, 0, 3, 5, 0};
 
@@ -63,6 +66,12 @@ static void *check(void *none) {
 }
 static void *run(void *none) {
     if (wal_run(problem, LENGTH, values, NODES, tape, WORDS, 1000, out, WAL_RUN_OUT) != WAL_ACCEPTED) abort();
+    return none;
+}
+static void *batch(void *none) {
+    if (wal_batch(problem, LENGTH, STARTS, places, STARTS * NODES, tape, WORDS, lengths, STARTS, budgets, STARTS, answers,
+                  STARTS * WAL_ANSWER) != WAL_ACCEPTED)
+        abort();
     return none;
 }
 static void *need(void *none) {
@@ -121,6 +130,7 @@ int main(void) {
         size_t most;
     } calls[] = {{"wal_check", check, WAL_STACK},
                  {"wal_run", run, WAL_STACK},
+                 {"wal_batch", batch, WAL_STACK},
                  {"wal_need", need, WAL_STACK},
                  {"wal_model", model, WAL_MODEL_STACK},
                  {"wal_pick", picks, WAL_STACK},

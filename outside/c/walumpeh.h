@@ -70,6 +70,9 @@ enum {
     WAL_ROOT_REPEATED = 16, /* [root] its id stands earlier in the file */
     WAL_FEW_PLACES = 14,   /* fewer places for values than nodes */
     WAL_START = 15,        /* [node] a variable's start does not agree with its pair */
+    WAL_STARTS = 17,       /* more than 256 starts, or lengths or budgets that are not one a start */
+    WAL_LENGTHS = 18,      /* the lengths' sum exceeds the tape */
+    WAL_FEW_FOR_STARTS = 19, /* fewer places for values than starts times nodes */
     WAL_NAMES = 30,          /* the list has too few or many names, or one twice */
     WAL_SYNTAX = 31,         /* no get-model answer, or a width outside 1 to 64 */
     WAL_UNKNOWN_NAME = 32,   /* [entry] no variable has the name */
@@ -99,6 +102,18 @@ enum {
     WAL_RUN_OUT = 5
 };
 
+/* Where wal_batch puts what of a start's answer, how many words each takes, and the most starts. */
+enum {
+    WAL_ANSWER_REFUSAL = 0,
+    WAL_ANSWER_VERDICT = 1,
+    WAL_ANSWER_MOVES = 2,
+    WAL_ANSWER_STEPS = 3,
+    WAL_ANSWER_WORDS = 4,
+    WAL_ANSWER_EVALUATED = 5,
+    WAL_ANSWER = 6,
+    WAL_MOST_STARTS = 256
+};
+
 /* Where wal_need puts what in out, and how many words it needs there. */
 enum { WAL_NEED_CHAIN = 0, WAL_NEED_WORDS = 1, WAL_NEED_OUT = 2 };
 
@@ -119,6 +134,18 @@ uint64_t wal_check(const uint8_t *problem, size_t problem_len);
    WAL_REFUSED and four times 0. Words of out after the fifth are not touched. */
 uint64_t wal_run(const uint8_t *problem, size_t problem_len, uint64_t *values, size_t values_len,
                  const uint64_t *tape, size_t tape_len, uint16_t budget, uint64_t *out, size_t out_len);
+
+/* Runs of one problem from up to 256 starts, the problem being checked once: the refusals of wal_check, then 17, 18
+   and 19, each at place 0; any of them leaves values and answers as they were. Start k has the N places from k x N
+   on, lengths[k] words of the tape after those of the starts before it (a sum of numbers, never reduced), and
+   budgets[k] moves. answers takes six words for each start: its own refusal (15 or none), and what wal_run puts
+   into out. Answers and values are those of wal_run on each start's places, words and budget; a start that is
+   refused changes nothing. Places from starts x N on, words of the tape after the lengths' sum and words after 6 x
+   starts of answers are not touched. WAL_TOO_SHORT where answers has fewer than 6 x starts words. */
+uint64_t wal_batch(const uint8_t *problem, size_t problem_len, uint64_t starts, uint64_t *values,
+                   size_t values_len, const uint64_t *tape, size_t tape_len, const uint64_t *lengths,
+                   size_t lengths_len, const uint16_t *budgets, size_t budgets_len, uint64_t *answers,
+                   size_t answers_len);
 
 /* How long a tape a problem needs: refusals 1 to 13, 16 and 20. out takes H, the longest chain of operand
    links under any root, and budget x (1 + 2H); beside a refusal 0 and 0. No move makes more than H steps,

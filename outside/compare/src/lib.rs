@@ -10,12 +10,14 @@
 //! | `runs`    | checks and whole runs, with every verdict and refusal counted                 |
 //! | `more`    | pairs of runs, of which the second is lent a greater budget and more words    |
 //! | `need`    | how long a tape a run takes, and problems that use every word of it           |
+//! | `batches` | many starts of one problem at once, and each by a run of its own              |
 //! | `models`  | what is said of get-model answers, with every refusal and every order of two  |
 //! | `program` | what the program `tvrun` prints, whole                                        |
 //! | `parts`   | work in parts, on all of the machine's processors                             |
 //!
 //! A difference is an `Err` with a text that shows it.
 
+pub mod batches;
 pub mod fixed;
 pub mod models;
 pub mod more;
@@ -28,4 +30,4 @@ pub mod runs;
 pub mod subject;
 pub mod wide;
 
-pub use subject::{Judge, Library, Plain, Subject};
+pub use subject::{Batches, Judge, Library, Plain, Subject};

@@ -3,7 +3,7 @@
 use clap::{Parser, ValueEnum};
 use compare::narrow::{self, Extent};
 use compare::runs::{self, Counts, Difference};
-use compare::{fixed, models, need, program, refused, wide, Library, Plain, Subject};
+use compare::{batches, fixed, models, need, program, refused, wide, Batches, Library, Plain, Subject};
 use model::{Kind, Verdict};
 use std::path::{Path, PathBuf};
 use std::process::ExitCode;
@@ -61,6 +61,11 @@ enum What {
         #[arg(long, value_name = "FOLDER", default_value = "differences")]
         out: PathBuf,
     },
+    /// Many starts of one problem at once, and each by a run of its own; with every refusal
+    Batches {
+        #[arg(long, default_value_t = 20_000)]
+        cases: u64,
+    },
     /// Problems that use every word of the tape that they may need, and say ended with one word less
     Need,
     /// What is said of other solvers' models: get-model answers well formed, damaged, and with every refusal
@@ -100,11 +105,12 @@ fn main() -> ExitCode {
     }
 }
 
-fn compare(subject: &impl Subject, line: &Line) -> Result<(), String> {
+fn compare(subject: &(impl Subject + Batches), line: &Line) -> Result<(), String> {
     match &line.what {
         What::Picks { spots, cases } => picks(subject, line.seed, *spots, *cases),
         What::Runs { cases, out } => whole_runs(subject, line.seed, *cases, out),
         What::More { cases, out } => pairs(subject, line.seed, *cases, out),
+        What::Batches { cases } => whole_batches(subject, line.seed, *cases),
         What::Need => whole_tapes(subject, line.seed),
         What::Models { cases, out } => answers(line, *cases, out),
         What::Program { program, cases } => whole_outputs(program, line.seed, *cases),
@@ -215,6 +221,28 @@ fn pairs(subject: &impl Subject, seed: u64, cases: u64, out: &Path) -> Result<()
     match counts.contains(&0) {
         true => Err("a verdict was never reached".into()),
         false => Ok(()),
+    }
+}
+
+fn whole_batches(subject: &(impl Subject + Batches), seed: u64, cases: u64) -> Result<(), String> {
+    let start = Instant::now();
+    let counts = batches::compare(subject, seed, cases).map_err(|difference| {
+        let (index, what) = (difference.index, difference.what);
+        format!("difference at batch {index} of seed {seed}: {what}; {:?}", difference.batch)
+    })?;
+    for (number, count) in counts.calls.iter().enumerate().skip(1).filter(|(_, count)| **count > 0) {
+        println!("refusal {number:<3} {count:>8}");
+    }
+    let shown: Vec<String> = counts.by_verdict().map(|(name, count)| format!("{name} {count}")).collect();
+    println!("starts of calls that are not refused: {}", shown.join(", "));
+    println!("refused between others {}, without a word {}", counts.between, counts.empty);
+    println!("calls of no start {}, of 256 {}", counts.none, counts.most);
+    println!("lengths whose sum passes 2^64 {}, small modulo 2^64 {}", counts.over, counts.over_unseen);
+    println!("every order of two, the earlier told, {} times or more", counts.rarest());
+    println!("batches: {cases} calls, {} not refused, no difference, {}", counts.calls[0], seconds(start));
+    match counts.missing().as_slice() {
+        [] => Ok(()),
+        missing => Err(format!("never reached: {}", missing.join(", "))),
     }
 }
 

@@ -1,5 +1,6 @@
 //! What is compared with the model: the calls in the library's own numbers.
 
+use model::batch::Lent;
 use model::{Set, Spot};
 
 pub trait Subject: Sync {
@@ -13,6 +14,12 @@ pub trait Subject: Sync {
     fn pick(&self, asked: &Asked, set: Set, proposal: u64, out: &mut [u64; 1]) -> u8;
     /// 0, 1, or 2 for refused arguments.
     fn essential(&self, asked: &Asked) -> u8;
+}
+
+/// Many starts of one problem at once.
+pub trait Batches: Sync {
+    /// 0, or the refusal of the whole call; `answers` takes six words for each start.
+    fn batch(&self, lent: Lent, values: &mut [u64], answers: &mut [u64]) -> u64;
 }
 
 /// Our word for another solver's model; plain Rust has no such call.
@@ -71,6 +78,12 @@ impl Subject for Library {
     }
 }
 
+impl Batches for Library {
+    fn batch(&self, l: Lent, values: &mut [u64], answers: &mut [u64]) -> u64 {
+        walumpeh::raw::batch(l.problem, l.starts, values, l.tape, l.lengths, l.budgets, answers)
+    }
+}
+
 impl Judge for Library {
     fn model(&self, problem: &[u8], names: &[u8], text: &[u8], out: &mut [u64]) -> u64 {
         walumpeh::raw::model(problem, names, text, out)
@@ -102,6 +115,12 @@ impl Subject for Model {
     }
 }
 
+impl Batches for Model {
+    fn batch(&self, lent: Lent, values: &mut [u64], answers: &mut [u64]) -> u64 {
+        model::calls::batch(lent, values, answers)
+    }
+}
+
 impl Judge for Model {
     fn model(&self, problem: &[u8], names: &[u8], text: &[u8], out: &mut [u64]) -> u64 {
         model::calls::model(problem, names, text, out)
@@ -130,5 +149,11 @@ impl Subject for Plain {
 
     fn essential(&self, q: &Asked) -> u8 {
         plain::calls::essential(q.kind, q.width, q.low, &q.words, q.position, q.target)
+    }
+}
+
+impl Batches for Plain {
+    fn batch(&self, l: Lent, values: &mut [u64], answers: &mut [u64]) -> u64 {
+        plain::calls::batch(l.problem, l.starts, values, l.tape, l.lengths, l.budgets, answers)
     }
 }

@@ -3,8 +3,9 @@
 
 use compare::narrow::{self, Extent};
 use compare::subject::{Asked, Model};
-use compare::{fixed, models, need, runs, wide, Judge, Subject};
-use model::calls::MODEL_OUT;
+use compare::{batches, fixed, models, need, runs, wide, Batches, Judge, Subject};
+use model::batch::{Lent, MOST_STARTS};
+use model::calls::{ANSWER, MODEL_OUT};
 use model::problem::{HEADER, NODE};
 use model::{pairs, Kind, Pair, Set};
 
@@ -270,6 +271,118 @@ fn repeats_the_one_before(problem: &[u8], position: u64) -> bool {
     let nodes = usize::from(u16::from_le_bytes([problem[5], problem[6]]));
     let at = HEADER + NODE * nodes + 2 * position as usize;
     problem[at..at + 2] == problem[at - 2..at]
+}
+
+/// The model's batch with one thing changed.
+#[derive(Clone, Copy, Debug, PartialEq)]
+enum WrongBatch {
+    ReadsOnFromTheFirst,
+    WritesWhereRefused,
+    StopsAtARefusedStart,
+    ReducesTheSum,
+    TakesTheLongestList,
+    TellsPlacesBeforeLengths,
+    GivesFourteen,
+    SharesOneBudget,
+    AnswersARefusedCall,
+    CountsThroughAllStarts,
+}
+
+use WrongBatch::*;
+
+impl Subject for WrongBatch {
+    fn check(&self, problem: &[u8]) -> u64 {
+        Model.check(problem)
+    }
+
+    fn run(&self, problem: &[u8], values: &mut [u64], tape: &[u64], budget: u16, out: &mut [u64]) -> u64 {
+        Model.run(problem, values, tape, budget, out)
+    }
+
+    fn need(&self, problem: &[u8], budget: u16, out: &mut [u64]) -> u64 {
+        Model.need(problem, budget, out)
+    }
+
+    fn pick(&self, asked: &Asked, set: Set, proposal: u64, out: &mut [u64; 1]) -> u8 {
+        Model.pick(asked, set, proposal, out)
+    }
+
+    fn essential(&self, asked: &Asked) -> u8 {
+        Model.essential(asked)
+    }
+}
+
+impl Batches for WrongBatch {
+    fn batch(&self, lent: Lent, values: &mut [u64], answers: &mut [u64]) -> u64 {
+        let before = values.to_vec();
+        let refusal = Model.batch(lent, values, answers);
+        let taken = answers.len() / ANSWER * ANSWER;
+        match (self, refusal & 255) {
+            (_, 255) => {}
+            (ReadsOnFromTheFirst, 0) if lent.starts > 1 => {
+                // The second start's words begin where the first one stopped reading.
+                let (used, nodes) = (answers[4] as usize, nodes(lent.problem) as usize);
+                let end = (lent.lengths[0] + lent.lengths[1]) as usize;
+                values[nodes..2 * nodes].copy_from_slice(&before[nodes..2 * nodes]);
+                let own = &mut values[nodes..2 * nodes];
+                let out = &mut answers[ANSWER..2 * ANSWER];
+                out[0] = Model.run(lent.problem, own, &lent.tape[used..end], lent.budgets[1], &mut out[1..]);
+            }
+            (WritesWhereRefused, 0) => {
+                let refused =
+                    answers.chunks(ANSWER).take(lent.starts as usize).position(|answer| answer[0] != 0);
+                if let Some(start) = refused {
+                    values[start * nodes(lent.problem) as usize] ^= 1;
+                }
+            }
+            (StopsAtARefusedStart, 0) => {
+                let refused =
+                    answers.chunks(ANSWER).take(lent.starts as usize).position(|answer| answer[0] != 0);
+                if let Some(start) = refused {
+                    let from = (start + 1) * nodes(lent.problem) as usize;
+                    values[from..].copy_from_slice(&before[from..]);
+                }
+            }
+            (ReducesTheSum, 18) => {
+                let sum = lent.lengths.iter().fold(0u64, |sum, &length| sum.wrapping_add(length));
+                return if sum <= lent.tape.len() as u64 { 0 } else { refusal };
+            }
+            (TakesTheLongestList, 17) if lent.starts <= MOST_STARTS => return 0,
+            (TellsPlacesBeforeLengths, 18)
+                if values.len() < lent.starts as usize * nodes(lent.problem) as usize =>
+            {
+                return 19
+            }
+            (GivesFourteen, 19) => return 14,
+            (SharesOneBudget, 0) if lent.starts > 1 => {
+                let budgets = vec![lent.budgets[0]; lent.starts as usize];
+                values.copy_from_slice(&before);
+                return Model.batch(Lent { budgets: &budgets, ..lent }, values, answers);
+            }
+            (AnswersARefusedCall, 1..) => answers[..taken].fill(0),
+            (CountsThroughAllStarts, 0) if lent.starts > 1 => answers[ANSWER + 5] += answers[5],
+            _ => {}
+        }
+        refusal
+    }
+}
+
+#[test]
+fn wrong_batches_are_caught() {
+    for wrong in [
+        ReadsOnFromTheFirst,
+        WritesWhereRefused,
+        StopsAtARefusedStart,
+        ReducesTheSum,
+        TakesTheLongestList,
+        TellsPlacesBeforeLengths,
+        GivesFourteen,
+        SharesOneBudget,
+        AnswersARefusedCall,
+        CountsThroughAllStarts,
+    ] {
+        assert!(batches::compare(&wrong, 1, 1000).is_err(), "{wrong:?} passed");
+    }
 }
 
 #[test]

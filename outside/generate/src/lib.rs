@@ -9,12 +9,14 @@
 //! | `tight`    | problems whose runs use every word that they may need                  |
 //! | `damage`   | one fault in a problem's bytes, for each of the problem's refusals     |
 //! | `case`     | everything that a run is lent, of all sorts mixed                      |
+//! | `batches`  | everything that many starts of one problem are lent                    |
 //! | `answers`  | get-model answers of all sorts, with the names of their variables       |
 //! | `spots`    | single nodes for picking: operators, pairs, values, targets            |
 //! | `tape`     | the words of a run as it asks for them, some share for the inverse     |
 //! | `families` | the benchmark's families, each with a known solution                   |
 
 pub mod answers;
+pub mod batches;
 pub mod builder;
 pub mod case;
 pub mod damage;

@@ -1,5 +1,5 @@
-//! The proved library in safe Rust: the problem check, the run and how long a tape it takes, our word for
-//! another solver's model, and the picks of a single node.
+//! The proved library in safe Rust: the problem check, the run and how long a tape it takes, many runs of one
+//! problem at once, our word for another solver's model, and the picks of a single node.
 //!
 //! Every call takes whole slices and answers for every input; nothing has to hold beforehand. Calls
 //! share nothing and may run on several threads. The calls behind them, with the library's own numbers,
@@ -72,6 +72,30 @@ pub fn run(problem: &[u8], values: &mut [u64], tape: &[u64], budget: u16) -> Res
     let mut out = [0; raw::RUN_OUT];
     Refusal::of(raw::run(problem, values, tape, budget, &mut out))?;
     Ok(Answer::of(out))
+}
+
+/// The most starts of one batch.
+pub const MOST_STARTS: usize = 256;
+
+/// Runs of one problem from many starts, each with N places in turn, as many words of the tape as its length says, after
+/// those of the starts before it, and its own budget: one of each list for each start. Answers and values are those of
+/// single runs, a refusal 15 of a start included. A refusal of the whole call changes nothing.
+pub fn batch(
+    problem: &[u8],
+    values: &mut [u64],
+    tape: &[u64],
+    lengths: &[u64],
+    budgets: &[u16],
+) -> Result<Vec<Result<Answer, Refusal>>, Refusal> {
+    let mut answers = vec![0; raw::ANSWER * lengths.len()];
+    let starts = lengths.len() as u64;
+    Refusal::of(raw::batch(problem, starts, values, tape, lengths, budgets, &mut answers))?;
+    Ok(answers.as_chunks().0.iter().map(answer_of_start).collect())
+}
+
+/// A start's answer in the library's numbers.
+fn answer_of_start(&[refusal, out @ ..]: &[u64; raw::ANSWER]) -> Result<Answer, Refusal> {
+    Refusal::of(refusal).map(|()| Answer::of(out))
 }
 
 /// How long a tape a problem's runs take.

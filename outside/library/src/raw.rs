@@ -25,6 +25,21 @@ mod calls {
             out: *mut u64,
             out_len: usize,
         ) -> u64;
+        pub fn wal_batch(
+            problem: *const u8,
+            problem_len: usize,
+            starts: u64,
+            values: *mut u64,
+            values_len: usize,
+            tape: *const u64,
+            tape_len: usize,
+            lengths: *const u64,
+            lengths_len: usize,
+            budgets: *const u16,
+            budgets_len: usize,
+            answers: *mut u64,
+            answers_len: usize,
+        ) -> u64;
         pub fn wal_model(
             problem: *const u8,
             problem_len: usize,
@@ -66,6 +81,9 @@ pub const IS_STUB: bool = cfg!(feature = "stub");
 /// How many words a run needs for its answer: verdict, moves, steps, words and nodes evaluated.
 pub const RUN_OUT: usize = 5;
 
+/// How many words `batch` needs for each start's answer: its refusal, verdict, moves, steps, words and nodes evaluated.
+pub const ANSWER: usize = 1 + RUN_OUT;
+
 /// How many words `need` needs for its answer: H and the number of words.
 pub const NEED_OUT: usize = 2;
 
@@ -105,6 +123,36 @@ pub fn run(problem: &[u8], values: &mut [u64], tape: &[u64], budget: u16, out: &
 pub fn need(problem: &[u8], budget: u16, out: &mut [u64]) -> u64 {
     // SAFETY: as above.
     unsafe { calls::wal_need(problem.as_ptr(), problem.len(), budget, out.as_mut_ptr(), out.len()) }
+}
+
+/// The same of the whole call; `answers` takes six words for each start: its own refusal, and those of a run.
+pub fn batch(
+    problem: &[u8],
+    starts: u64,
+    values: &mut [u64],
+    tape: &[u64],
+    lengths: &[u64],
+    budgets: &[u16],
+    answers: &mut [u64],
+) -> u64 {
+    // SAFETY: as above.
+    unsafe {
+        calls::wal_batch(
+            problem.as_ptr(),
+            problem.len(),
+            starts,
+            values.as_mut_ptr(),
+            values.len(),
+            tape.as_ptr(),
+            tape.len(),
+            lengths.as_ptr(),
+            lengths.len(),
+            budgets.as_ptr(),
+            budgets.len(),
+            answers.as_mut_ptr(),
+            answers.len(),
+        )
+    }
 }
 
 /// The same; `out` takes 1 for yes and 0 otherwise, and the first root that is 0, or two zeros.

@@ -1,6 +1,7 @@
 //! The proved library's calls as the model answers them, in the library's own numbers: what each
 //! must answer.
 
+use crate::batch::{batch as model_batch, Lent};
 use crate::judged::{judge, Judged};
 use crate::problem::read;
 use crate::{exact, ones, run as model_run, Answer, Kind, Operator, Outcome, Pair, Refusal, Set, Spot};
@@ -10,6 +11,9 @@ pub const SPOT_WORDS: usize = 12;
 
 /// How many words a run's answer takes: verdict, moves, steps, words and nodes evaluated.
 pub const RUN_OUT: usize = 5;
+
+/// How many words a start's answer takes in a batch: its refusal, and what a run's answer takes.
+pub const ANSWER: usize = 1 + RUN_OUT;
 
 /// How many words the answer of `need` takes: H and the number of words.
 pub const NEED_OUT: usize = 2;
@@ -68,6 +72,23 @@ pub fn run(problem: &[u8], values: &mut [u64], tape: &[u64], budget: u16, out: &
         return TOO_SHORT;
     }
     numbers(&model_run(problem, values, tape, budget), out)
+}
+
+/// The answers of a batch in numbers, six words a start, or the refusal of the whole call, which writes none; nothing is
+/// done where `answers` is too short for them.
+pub fn batch(lent: Lent, values: &mut [u64], answers: &mut [u64]) -> u64 {
+    if (answers.len() as u128) < ANSWER as u128 * u128::from(lent.starts) {
+        return TOO_SHORT;
+    }
+    match model_batch(lent, values) {
+        Err(refusal) => code(refusal),
+        Ok(found) => {
+            for (answer, out) in found.iter().zip(answers.chunks_mut(ANSWER)) {
+                out[0] = numbers(answer, &mut out[1..]);
+            }
+            0
+        }
+    }
 }
 
 /// 0, or the refusal's number + 256 × its place. `out` takes the verdict (0 model, 1 spent, 2 ended,

@@ -10,11 +10,13 @@
 //! | `definition` | the three sets and the pick by going through all values (small widths)    |
 //! | `exact`      | the same sets and pick at every width                                     |
 //! | `run`        | a run: refusals 14 and 15, verdicts and counts                            |
+//! | `batch`      | many starts of one problem: refusals 17 to 19, a run for each start       |
 //! | `recipe`     | demand 3: the tape that leads from a start to a known solution            |
 //! | `judged`     | another solver's model: its text, refusals 30 to 36, the first root that is 0 |
 //! | `files`      | the three files of `tvrun`: what they hold and what is printed            |
 //! | `calls`      | the proved library's calls, in its numbers                                |
 
+pub mod batch;
 pub mod calls;
 pub mod definition;
 pub mod exact;

@@ -5,7 +5,7 @@ use crate::kind::{COUNT, EXTRACT};
 use crate::layout::{check as check_problem, height, operands, widest, Refusal};
 use crate::mask;
 use crate::picking::{essential as is_essential, pick_consistent, pick_inverse, Spot};
-use crate::search::{run as run_problem, run_evaluating_all, Answer, Outcome};
+use crate::search::{batch as run_batch, run as run_problem, run_evaluating_all, Answer, Outcome};
 
 /// 0 where the problem is accepted, else the refusal's number + 256 × its place.
 #[inline(never)]
@@ -47,6 +47,28 @@ fn numbers(answer: Answer) -> (u64, [u64; 5]) {
         Outcome::Refused(refusal) => (code(refusal), 4),
     };
     (refusal, [verdict, answer.moves, answer.steps, answer.words, answer.evaluated])
+}
+
+/// The same of the whole call; `answers` takes six words for each start: its own refusal, and those of a run.
+#[inline(never)]
+pub fn batch(
+    problem: &[u8],
+    starts: u64,
+    values: &mut [u64],
+    tape: &[u64],
+    lengths: &[u64],
+    budgets: &[u16],
+    answers: &mut [u64],
+) -> u64 {
+    let answers = answers.as_chunks_mut::<6>().0;
+    if (answers.len() as u64) < starts {
+        return 255;
+    }
+    let see = |start: usize, answer| {
+        let (refusal, [verdict, moves, steps, words, evaluated]) = numbers(answer);
+        answers[start] = [refusal, verdict, moves, steps, words, evaluated];
+    };
+    run_batch(problem, starts, values, tape, lengths, budgets, see).map_or_else(code, |()| 0)
 }
 
 /// The same; `out` takes H and budget × (1 + 2H), or two zeros.

@@ -9,7 +9,7 @@
 //! | `layout`  | problem bytes: nodes, roots, their refusals, H            |
 //! | `values`  | evaluation and fixed bits of all nodes                    |
 //! | `readers` | who reads each node, and evaluation above a variable      |
-//! | `search`  | the run                                                   |
+//! | `search`  | the run, and many starts of one problem                   |
 //! | `calls`   | the library's calls, in its numbers                       |
 
 pub mod calls;

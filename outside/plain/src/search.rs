@@ -1,4 +1,4 @@
-//! The run.
+//! The run, and runs of one problem from many starts.
 
 use crate::kind::*;
 use crate::layout::{check, field, hi, kind, lo, operands, root, width, Node, Problem, Refusal, MOST_NODES};
@@ -29,6 +29,12 @@ pub struct Answer {
     /// Nodes evaluated: all at the beginning, and those above the variable in each move that sets one.
     pub evaluated: u64,
     pub outcome: Outcome,
+}
+
+impl Answer {
+    fn refused(refusal: Refusal) -> Answer {
+        Answer { moves: 0, steps: 0, words: 0, evaluated: 0, outcome: Outcome::Refused(refusal) }
+    }
 }
 
 /// A whole run that evaluates, after each move, what is above the variable that it set.
@@ -63,24 +69,101 @@ fn begin(
     values: &mut [u64],
     go_on: impl FnOnce(Problem, &Pairs, &mut [u64]) -> Answer,
 ) -> Answer {
-    let refused =
-        |refusal| Answer { moves: 0, steps: 0, words: 0, evaluated: 0, outcome: Outcome::Refused(refusal) };
     let problem = match check(bytes) {
         Ok(problem) => problem,
-        Err(refusal) => return refused(refusal),
+        Err(refusal) => return Answer::refused(refusal),
     };
     let Some(values) = values.get_mut(..problem.nodes.len()) else {
-        return refused(Refusal { number: 14, place: 0 });
+        return Answer::refused(Refusal { number: 14, place: 0 });
     };
-    let misfit =
-        |(node, &v): (&Node, &u64)| kind(node) == VARIABLE && (lo(node) & !v != 0 || v & !hi(node) != 0);
-    if let Some(place) = problem.nodes.iter().zip(values.iter()).position(misfit) {
-        return refused(Refusal { number: 15, place });
+    if let Some(place) = misfit(problem.nodes, values) {
+        return Answer::refused(Refusal { number: 15, place });
     }
     evaluate(problem.nodes, values);
     let mut pairs = Pairs { lo: [0; MOST_NODES], hi: [0; MOST_NODES] };
     fill(problem.nodes, &mut pairs);
     go_on(problem, &pairs, values)
+}
+
+/// The first variable whose start does not agree with its pair.
+#[inline]
+fn misfit(nodes: &[Node], values: &[u64]) -> Option<usize> {
+    let misfit =
+        |(node, &v): (&Node, &u64)| kind(node) == VARIABLE && (lo(node) & !v != 0 || v & !hi(node) != 0);
+    nodes.iter().zip(values).position(misfit)
+}
+
+/// The most starts of a batch.
+const MOST_STARTS: u64 = 256;
+
+/// Runs of one problem from many starts; `see` is told each answer, by the start's number.
+pub fn batch(
+    bytes: &[u8],
+    starts: u64,
+    values: &mut [u64],
+    tape: &[u64],
+    lengths: &[u64],
+    budgets: &[u16],
+    mut see: impl FnMut(usize, Answer),
+) -> Result<(), Refusal> {
+    let problem = check(bytes)?;
+    let nodes = problem.nodes;
+    let refuse = |number| Err(Refusal { number, place: 0 });
+    if starts > MOST_STARTS || lengths.len() as u64 != starts || budgets.len() as u64 != starts {
+        return refuse(17);
+    }
+    let take = |left: u64, &length: &u64| left.checked_sub(length);
+    if lengths.iter().try_fold(tape.len() as u64, take).is_none() {
+        return refuse(18);
+    }
+    if values.len() < starts as usize * nodes.len() {
+        return refuse(19);
+    }
+    let mut pairs = Pairs { lo: [0; MOST_NODES], hi: [0; MOST_NODES] };
+    fill(nodes, &mut pairs);
+    let starts = Starts { problem, pairs: &pairs, tape, lengths, budgets };
+    if nodes.len() <= 128 {
+        let readers = Few::of(nodes);
+        starts.run(values, |values, v, x| readers.take(nodes, values, v, x), &mut see);
+    } else {
+        let readers = Many::of(nodes);
+        starts.run(values, |values, v, x| readers.take(nodes, values, v, x), &mut see);
+    }
+    Ok(())
+}
+
+/// The starts of a batch that is not refused, without their places.
+struct Starts<'a> {
+    problem: Problem<'a>,
+    pairs: &'a Pairs,
+    tape: &'a [u64],
+    lengths: &'a [u64],
+    budgets: &'a [u16],
+}
+
+impl Starts<'_> {
+    #[inline(always)]
+    fn run(
+        &self,
+        values: &mut [u64],
+        mut take: impl FnMut(&mut [u64], usize, u64) -> u64,
+        see: &mut impl FnMut(usize, Answer),
+    ) {
+        let (nodes, mut tape) = (self.problem.nodes, self.tape);
+        for (start, (&length, &budget)) in self.lengths.iter().zip(self.budgets).enumerate() {
+            let values = &mut values[start * nodes.len()..(start + 1) * nodes.len()];
+            let stretch;
+            (stretch, tape) = tape.split_at(length as usize);
+            let answer = match misfit(nodes, values) {
+                Some(place) => Answer::refused(Refusal { number: 15, place }),
+                None => {
+                    evaluate(nodes, values);
+                    settle(self.problem, self.pairs, values, stretch, budget, &mut take)
+                }
+            };
+            see(start, answer);
+        }
+    }
 }
 
 /// The run of an accepted problem, its values evaluated and its pairs filled in. `take` gives a variable a value,

@@ -3,6 +3,7 @@
 //!
 //! Each slice comes as a pointer and a length, and the callers here make both from Rust slices.
 
+use model::batch::Lent;
 use model::calls;
 use std::slice::{from_raw_parts, from_raw_parts_mut};
 
@@ -44,6 +45,35 @@ pub unsafe extern "C" fn wal_need(
     out_len: usize,
 ) -> u64 {
     calls::need(from_raw_parts(problem, problem_len), budget, from_raw_parts_mut(out, out_len))
+}
+
+/// # Safety
+/// Each pointer and length are those of a slice; no two that are written overlap.
+#[no_mangle]
+pub unsafe extern "C" fn wal_batch(
+    problem: *const u8,
+    problem_len: usize,
+    starts: u64,
+    values: *mut u64,
+    values_len: usize,
+    tape: *const u64,
+    tape_len: usize,
+    lengths: *const u64,
+    lengths_len: usize,
+    budgets: *const u16,
+    budgets_len: usize,
+    answers: *mut u64,
+    answers_len: usize,
+) -> u64 {
+    let lent = Lent {
+        problem: from_raw_parts(problem, problem_len),
+        starts,
+        tape: from_raw_parts(tape, tape_len),
+        lengths: from_raw_parts(lengths, lengths_len),
+        budgets: from_raw_parts(budgets, budgets_len),
+    };
+    let values = from_raw_parts_mut(values, values_len);
+    calls::batch(lent, values, from_raw_parts_mut(answers, answers_len))
 }
 
 /// # Safety
