@@ -6,11 +6,13 @@
 //! | `commands` | one module for each subcommand                            |
 //! | `files`    | reading, writing and printing                             |
 //! | `problem`  | an accepted problem from a file                           |
+//! | `draw`     | starts and tapes by chance                                |
 //! | `names`    | lists of the variables' names                             |
 //! | `fault`    | what goes wrong, in words for the user                    |
 //! | `started`  | what has to be looked at before Rust's own start          |
 
 mod commands;
+mod draw;
 mod fault;
 mod files;
 mod names;
@@ -34,7 +36,7 @@ struct Line {
 const STATUS: &str = "\
 Where a file is read or written, '-' is standard input or output.
 Exit status: 0 done; 1 refused, or a file cannot be read or written; 2 the command line is not understood.
-run and model have more.";
+run, batch and model have more.";
 
 fn main() -> ExitCode {
     let mut trouble = ExitCode::FAILURE;

@@ -1,5 +1,6 @@
 //! The subcommands: each module has its arguments and what it does with them.
 
+mod batch;
 mod build;
 mod check;
 mod example;
@@ -22,6 +23,7 @@ pub enum Command {
     Need(need::Args),
     Tape(tape::Args),
     Run(run::Args),
+    Batch(batch::Args),
     Export(export::Args),
     Model(model::Args),
     Example(example::Args),
@@ -44,6 +46,7 @@ impl Command {
             Command::Need(args) => need::run(&args),
             Command::Tape(args) => tape::run(&args),
             Command::Run(args) => run::run(&args),
+            Command::Batch(args) => batch::run(&args),
             Command::Export(args) => export::run(&args),
             Command::Model(args) => model::run(&args),
             Command::Example(args) => example::run(&args),

@@ -1,6 +1,6 @@
 //! walumpeh need: how long a tape a problem needs.
 
-use crate::commands::tape::BUDGET;
+use crate::draw::BUDGET;
 use crate::fault::Fault;
 use crate::files::{print, read};
 use std::path::PathBuf;

@@ -2,4 +2,5 @@
 
 pub mod print;
 pub mod read;
+pub mod tapes;
 pub mod write;

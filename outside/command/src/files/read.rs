@@ -6,6 +6,7 @@ use model::files::{words_of, MOST_BYTES, MOST_PLACES};
 use std::fs::File;
 use std::io::Read;
 use std::path::Path;
+use walumpeh::MOST_STARTS;
 
 /// The budget, and as many words as 65,535 moves of 1,023 steps take.
 const MOST_TAPE: u64 = 8 * (1 + 65_535 * (1 + 2 * 1023));
@@ -20,6 +21,11 @@ pub fn problem(path: &Path) -> Result<Vec<u8>, Fault> {
 /// A start's words.
 pub fn start(path: &Path) -> Result<Vec<u64>, Fault> {
     bytes(path, 8 * MOST_PLACES as u64).map(|bytes| words_of(&bytes))
+}
+
+/// The words of up to 256 starts, one after the other.
+pub fn starts(path: &Path) -> Result<Vec<u64>, Fault> {
+    bytes(path, 8 * (MOST_STARTS * MOST_PLACES) as u64).map(|bytes| words_of(&bytes))
 }
 
 /// A tape file's words: the budget first.
@@ -44,13 +50,19 @@ pub fn text(path: &Path) -> Result<String, Fault> {
     })
 }
 
+/// A file, or standard input, to be read from.
+pub fn open(path: &Path) -> Result<Box<dyn Read>, Fault> {
+    match path.to_str() {
+        Some("-") => Ok(Box::new(std::io::stdin().lock())),
+        _ => File::open(path)
+            .map(|file| Box::new(file) as Box<dyn Read>)
+            .map_err(|fault| Fault::at(path, fault)),
+    }
+}
+
 fn bytes(path: &Path, most: u64) -> Result<Vec<u8>, Fault> {
     let mut bytes = Vec::new();
-    let read = match path.to_str() {
-        Some("-") => std::io::stdin().lock().take(most).read_to_end(&mut bytes),
-        _ => File::open(path).and_then(|file| file.take(most).read_to_end(&mut bytes)),
-    };
-    match read {
+    match open(path)?.take(most).read_to_end(&mut bytes) {
         Ok(_) => Ok(bytes),
         Err(fault) => Err(Fault::at(path, fault)),
     }

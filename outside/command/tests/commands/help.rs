@@ -2,7 +2,8 @@
 
 use crate::at::At;
 
-const COMMANDS: [&str; 9] = ["build", "show", "check", "need", "tape", "run", "export", "model", "example"];
+const COMMANDS: [&str; 10] =
+    ["build", "show", "check", "need", "tape", "run", "batch", "export", "model", "example"];
 
 #[test]
 fn help_names_every_command() {
@@ -28,7 +29,8 @@ fn every_command_has_help() {
     for (command, words) in [
         ("build", ["--rootless", "root ok"]),
         ("need", ["--budget <BUDGET>", "longest chain H"]),
-        ("tape", ["--uniform", "[default: 95]"]),
+        ("tape", ["--starts <K>", "[default: 95]"]),
+        ("batch", ["--only <K>", "starts K model M spent S"]),
         ("run", ["--evaluated", "3 spent, 4 ended, 5 closed"]),
         ("export", ["--answer <FILE>", "--pin <ID=VALUE>"]),
         ("model", ["<NAMES>", "0 yes; 1 no; 2 nothing was judged"]),

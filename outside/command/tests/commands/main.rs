@@ -3,6 +3,7 @@
 
 mod answers;
 mod at;
+mod batches;
 mod faults;
 mod help;
 mod models;

@@ -3,16 +3,24 @@
 use crate::at::{text, At, WALUMPEH};
 use std::process::{Command, Output};
 
-const PRINTING: [&str; 8] = [
+const PRINTING: [&str; 9] = [
     "show problem.tbv",
     "check problem.tbv",
     "need problem.tbv",
     "run",
+    "batch",
     "export problem.tbv",
     "export problem.tbv --model",
     "--help",
     "tape --help",
 ];
+
+/// A folder with all that these read.
+fn folder(name: &str) -> At {
+    let at = At::example(name);
+    at.prints("tape problem.tbv --starts 2", "");
+    at
+}
 
 /// The command with its standard output sent elsewhere by a shell.
 fn sent(at: &At, line: &str, to: &str) -> Output {
@@ -22,7 +30,7 @@ fn sent(at: &At, line: &str, to: &str) -> Output {
 
 #[test]
 fn a_closed_standard_output_is_noticed() {
-    let at = At::example("closed");
+    let at = folder("closed");
     for line in PRINTING {
         let output = sent(&at, line, ">&-");
         let found = (output.status.code(), text(&output.stderr));
@@ -47,7 +55,7 @@ fn a_judgement_that_cannot_be_printed_is_none() {
 
 #[test]
 fn an_output_that_nobody_reads_ends_quietly() {
-    let at = At::example("unread");
+    let at = folder("unread");
     for line in PRINTING {
         // The reader is gone before the command starts; what it says and its status come by files.
         let to = "2>said; echo $? >status; } | true";
@@ -70,7 +78,7 @@ fn faults_that_nobody_reads_keep_their_status() {
 
 #[test]
 fn a_full_output_is_told() {
-    let at = At::example("full");
+    let at = folder("full");
     for line in PRINTING {
         let output = sent(&at, line, ">/dev/full");
         let found = (output.status.code(), text(&output.stderr));
