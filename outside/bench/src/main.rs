@@ -1,6 +1,7 @@
 //! The benchmarks' command line.
 
 mod above;
+mod batch;
 mod before;
 mod growth;
 mod instructions;
@@ -31,6 +32,8 @@ enum Line {
     ///
     /// The older build is linked where WALUMPEH_BEFORE names its archive when this program is built.
     Above(Rounds),
+    /// 256 starts of a few moves in one call, beside a call for each
+    Batch(Rounds),
     /// Nanoseconds a pick of each kind and set, beside plain Rust
     Picks(Rounds),
     /// Cost as the nodes, the budget and what is above a variable grow; a plot where asked for
@@ -92,6 +95,7 @@ fn measure(line: &Line) -> Result<(), String> {
     match line {
         Line::Runs(Rounds { rounds }) => runs::table(*rounds),
         Line::Above(Rounds { rounds }) => above::table(*rounds),
+        Line::Batch(Rounds { rounds }) => batch::table(*rounds),
         Line::Picks(Rounds { rounds }) => picks::table(*rounds),
         Line::Growth { rounds, svg } => growth::table(rounds.rounds, svg.as_deref())?,
         Line::Models(Rounds { rounds }) => models::table(*rounds)?,

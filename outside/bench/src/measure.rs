@@ -1,6 +1,6 @@
 //! Several sides measured in turns, so that what slows the machine slows all.
 
-use std::time::Instant;
+use std::time::{Duration, Instant};
 
 /// The run as all sides have it.
 pub type Run = fn(&[u8], &mut [u64], &[u64], u16, &mut [u64]) -> u64;
@@ -16,13 +16,24 @@ pub fn fastest<const COUNT: usize>(
     parts: usize,
     mut work: impl FnMut(usize, usize),
 ) -> [f64; COUNT] {
+    fastest_told(rounds, parts, |side, part| {
+        let start = Instant::now();
+        work(side, part);
+        start.elapsed()
+    })
+}
+
+/// The same of a work that tells its own time, so that what prepares it does not count.
+pub fn fastest_told<const COUNT: usize>(
+    rounds: usize,
+    parts: usize,
+    mut work: impl FnMut(usize, usize) -> Duration,
+) -> [f64; COUNT] {
     let mut best = [(); COUNT].map(|()| vec![f64::INFINITY; parts]);
     for round in 0..=rounds {
         for part in 0..parts {
             for (side, best) in best.iter_mut().enumerate() {
-                let start = Instant::now();
-                work(side, part);
-                let time = start.elapsed().as_nanos() as f64;
+                let time = work(side, part).as_nanos() as f64;
                 if round > 0 {
                     best[part] = best[part].min(time);
                 }
