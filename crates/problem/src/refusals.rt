@@ -41,7 +41,7 @@ fn mark_wrong(problem: &[u8]) -> bool
 }
 
 // 1 to 6.
-pub(crate) fn header_fault(problem: &[u8]) -> Checked
+pub fn header_fault(problem: &[u8]) -> Checked
     ensures { λ r. ⌜ r ≡ headerFault (now (problem .entry)) ⌝ }
 {
     let nodes = node_count(problem);
@@ -63,7 +63,7 @@ fn division_wide(n: Node) -> bool
 }
 
 // 9: an operand's id is not below the node's own.
-fn operand_above(n: Node, operands: u8, id: u16) -> bool
+pub fn operand_above(n: Node, operands: u8, id: u16) -> bool
     ensures { λ r. ⌜ r ≡ operandAbove n operands id ⌝ }
 {
     ((0 < operands) & (id <= n.a)) | ((1 < operands) & (id <= n.b)) | ((2 < operands) & (id <= n.c))
@@ -114,7 +114,7 @@ fn fault_of(n: Node, id: u16, wa: u8, wb: u8, wc: u8) -> Checked
 }
 
 // 7 to 12, of node i.
-fn node_fault(problem: &[u8], i: u16) -> Checked
+pub fn node_fault(problem: &[u8], i: u16) -> Checked
     requires { ⌜ 9 + 24 * i + 24 ≤ length (now problem) ⌝ }
     ensures { λ r. ⌜ r ≡ nodeFault (now (problem .entry)) i ⌝ }
 {

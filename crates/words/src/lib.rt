@@ -21,6 +21,7 @@ pub use interval::pick_between;
 pub use marks::lowest;
 pub use marks::mark;
 pub use marks::marked;
+pub use marks::unmark;
 pub use modular::odd_inverse;
 pub use modular::wrapping_mul;
 pub use ternary::agrees;

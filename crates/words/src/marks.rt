@@ -4,7 +4,7 @@ ghost use mathlib.Core.Path.{_≡_};
 ghost use Prim.Native.Nat.{_≤_, _<_};
 ghost use lib.ListN.{length};
 ghost use Rattle.words.specs.inner.Decides.{Decides};
-ghost use Rattle.words.specs.inner.Marks.{Marked, withMark, Lowest};
+ghost use Rattle.words.specs.inner.Marks.{Marked, withMark, withoutMark, Lowest};
 
 // One id more.
 pub fn mark(marks: &mut [u64; 16], n: u16)
@@ -14,6 +14,16 @@ pub fn mark(marks: &mut [u64; 16], n: u16)
     let w = (n / 64) as usize;
     let bit = 1u64 << ((n % 64) as u32);
     marks[w] = marks[w] | bit;
+}
+
+// One id less: the bit of an id that is in the set is turned.
+pub fn unmark(marks: &mut [u64; 16], n: u16)
+    requires { ⌜ (length (now marks) ≡ 16) × (n < 1024) ⌝ }
+    ensures { λ r. ⌜ now (marks .exit) ≡ withoutMark (now (marks .entry)) n ⌝ }
+{
+    let w = (n / 64) as usize;
+    let bit = 1u64 << ((n % 64) as u32);
+    marks[w] = marks[w] ^ bit;
 }
 
 // Whether an id is in the set.

@@ -137,7 +137,8 @@ kept-same i n v v′ h = by-test (leb i n) (λ t. h (leb-true i n t))
 
 module _ (w wa wb low x y z : ℕ) where
   abbrev of-kept : Kind → ℕ → ℕ
-  of-kept o n = meaning o w (kept (leb 1 n) wa) (kept (leb 2 n) wb) low (kept (leb 1 n) x) (kept (leb 2 n) y) (kept (leb 3 n) z)
+  of-kept o n =
+      meaning o w (kept (leb 1 n) wa) (kept (leb 2 n) wb) (kept (leb n 1) low) (kept (leb 1 n) x) (kept (leb 2 n) y) (kept (leb 3 n) z)
 
   trimmed : (o : Kind) → meaning o w wa wb low x y z ≡ of-kept o (shape o .operands)
   trimmed variable = refl
@@ -159,17 +160,23 @@ module _ (w wa wb low x y z : ℕ) where
   trimmed sext = refl
   trimmed udiv = refl
 
--- their widths and values alone
+-- their widths and values alone, and the field b where that is no operand
+pub meaning-alike : (o : Kind) (w wa wb low x y z wa′ wb′ low′ x′ y′ z′ : ℕ)
+    → Used (shape o .operands) ((wa ≡ wa′) × (x ≡ x′)) ((wb ≡ wb′) × (y ≡ y′)) (z ≡ z′)
+    → (shape o .operands ≤ 1 → low ≡ low′)
+    → meaning o w wa wb low x y z ≡ meaning o w wa′ wb′ low′ x′ y′ z′
+meaning-alike o w wa wb low x y z wa′ wb′ low′ x′ y′ z′ u l =
+    let n = shape o .operands in
+    trimmed w wa wb low x y z o
+    ∙ ap₂ (λ (k v : ℕ). meaning o w k (kept (leb 2 n) wb) (kept (leb n 1) low) v (kept (leb 2 n) y) (kept (leb 3 n) z)) (kept-same 1 n wa wa′ (λ h. u .a h .0)) (kept-same 1 n x x′ (λ h. u .a h .1))
+    ∙ ap₂ (λ (k v : ℕ). meaning o w (kept (leb 1 n) wa′) k (kept (leb n 1) low) (kept (leb 1 n) x′) v (kept (leb 3 n) z)) (kept-same 2 n wb wb′ (λ h. u .b h .0)) (kept-same 2 n y y′ (λ h. u .b h .1))
+    ∙ ap₂ (λ (k v : ℕ). meaning o w (kept (leb 1 n) wa′) (kept (leb 2 n) wb′) k (kept (leb 1 n) x′) (kept (leb 2 n) y′) v) (kept-same n 1 low low′ l) (kept-same 3 n z z′ (u .c))
+    ∙ sym (trimmed w wa′ wb′ low′ x′ y′ z′ o)
+
 pub meaning-known : (o : Kind) (w wa wb low x y z wa′ wb′ x′ y′ z′ : ℕ)
     → Used (shape o .operands) ((wa ≡ wa′) × (x ≡ x′)) ((wb ≡ wb′) × (y ≡ y′)) (z ≡ z′)
     → meaning o w wa wb low x y z ≡ meaning o w wa′ wb′ low x′ y′ z′
-meaning-known o w wa wb low x y z wa′ wb′ x′ y′ z′ u =
-    let n = shape o .operands in
-    trimmed w wa wb low x y z o
-    ∙ ap₂ (λ (k v : ℕ). meaning o w k (kept (leb 2 n) wb) low v (kept (leb 2 n) y) (kept (leb 3 n) z)) (kept-same 1 n wa wa′ (λ h. u .a h .0)) (kept-same 1 n x x′ (λ h. u .a h .1))
-    ∙ ap₂ (λ (k v : ℕ). meaning o w (kept (leb 1 n) wa′) k low (kept (leb 1 n) x′) v (kept (leb 3 n) z)) (kept-same 2 n wb wb′ (λ h. u .b h .0)) (kept-same 2 n y y′ (λ h. u .b h .1))
-    ∙ ap (λ (v : ℕ). meaning o w (kept (leb 1 n) wa′) (kept (leb 2 n) wb′) low (kept (leb 1 n) x′) (kept (leb 2 n) y′) v) (kept-same 3 n z z′ (u .c))
-    ∙ sym (trimmed w wa′ wb′ low x′ y′ z′ o)
+meaning-known o w wa wb low x y z wa′ wb′ x′ y′ z′ u = meaning-alike o w wa wb low x y z wa′ wb′ low x′ y′ z′ u (λ h. refl)
 
 pub meaning-used : (o : Kind) (w wa wb low x y z x′ y′ z′ : ℕ) → Used (shape o .operands) (x ≡ x′) (y ≡ y′) (z ≡ z′)
     → meaning o w wa wb low x y z ≡ meaning o w wa wb low x′ y′ z′

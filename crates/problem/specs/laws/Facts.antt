@@ -71,7 +71,7 @@ narrow-right n = and-no (eq-yes (n .kind) 17) (lt-no 16 (n .width))
 below-right : (k m x i : ℕ) → ((ltb m k && leb i x) ≡ false) ↔ (m < k → x < i)
 below-right k m x i = and-no (lt-yes m k) (le-no i x)
 
-operands-right :
+pub operands-right :
     (n : Node) (k i : ℕ)
     → (operandAbove n k i ≡ false) ↔ (((0 < k → n .a < i) × (1 < k → n .b < i)) × (2 < k → n .c < i))
 unfolding operandAbove
@@ -187,6 +187,10 @@ module _ (s : List ℕ) where
   pub header-accepted : headerFault s ≡ Accepted → HeaderFacts s
   unfolding headerFault
   header-accepted h = header-facts s (none-of 0 _ h)
+
+  pub header-right : HeaderFacts s → headerFault s ≡ Accepted
+  unfolding headerFault
+  header-right h = of-none 0 _ (facts-header s h)
 
   node-accepted : (i : ℕ) → nodeFault s i ≡ Accepted → NodeFacts (nodeAt s i) i (widthAt s (nodeAt s i .a)) (widthAt s (nodeAt s i .b)) (widthAt s (nodeAt s i .c))
   unfolding nodeFault faultOf

@@ -8,7 +8,7 @@ use Rattle.problem.specs.declared.Checked.{Checked}
 use Rattle.problem.specs.declared.Checked.the-variants.{Accepted}
 use Rattle.problem.specs.declared.layout.Node.{Node}
 use Rattle.problem.specs.Layout.{le16, le32, le64, nodeCount, rootCount, nodeOf, nodeAt, widthAt, rootAt}
-use Rattle.problem.specs.Refusals.{refusal, _then_, checked}
+use Rattle.problem.specs.Refusals.{refusal, _then_, operandAbove, headerFault, nodeFault, checked}
 
 -- where the contract is an equation
 equal : {A : Type 0} {v r s : A} → r ≡ v → s ≡ v → r ≡ s
@@ -23,6 +23,16 @@ pub line-determined :
     → s ≡ (before then cond given (refusal number place) Accepted)
     → r ≡ s
 line-determined before number given place r s = equal
+
+pub header-fault-determined : (problem : List ℕ) (r s : Checked) → r ≡ headerFault problem → s ≡ headerFault problem → r ≡ s
+header-fault-determined problem r s = equal
+
+pub node-fault-determined : (problem : List ℕ) (i : ℕ) (r s : Checked) → r ≡ nodeFault problem i → s ≡ nodeFault problem i → r ≡ s
+node-fault-determined problem i r s = equal
+
+pub operand-above-determined :
+    (n : Node) (operands i : ℕ) (r s : Bool) → r ≡ operandAbove n operands i → s ≡ operandAbove n operands i → r ≡ s
+operand-above-determined n operands i r s = equal
 
 pub over-width-determined : (x w : ℕ) (r s : Bool) → r ≡ leb (2 ^ w) x → s ≡ leb (2 ^ w) x → r ≡ s
 over-width-determined x w r s = equal

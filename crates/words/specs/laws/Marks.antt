@@ -1,4 +1,4 @@
--- Laws of sets of ids as marks: one mark more, and the lowest mark from an id on.
+-- Laws of sets of ids as marks: one mark more, one less, and the lowest mark from an id on.
 use mathlib.Core.Path.{_≡_, refl, sym, ap, _∙_}
 use mathlib.Core.Logic.{_⊎_, inl, inr}
 use mathlib.Core.List.{List}
@@ -6,16 +6,16 @@ use Prim.Native.Nat.{ℕ, zero, suc, _+_, _-_, _*_, _/_, _%_, _^_, _≤_, _<_, m
 use native.Mathlib.Omega.{arith}
 use native.Mathlib.Nat.{pow-suc, le-antisymm}
 use native.Mathlib.Decide.{ℕ-discrete, decLt}
-use lib.ListN.{length, getD, replicate, length-set}
+use lib.ListN.{length, getD, set, replicate, length-set}
 use lib.Seq.{getD-set-same, getD-set-other}
-use lib.Bits.{bitOr}
+use lib.Bits.{bitOr, bitXor}
 use lib.Pow.{pow-pos}
 use Rattle.words.specs.Bits.{bit}
-use Rattle.words.specs.laws.Bits.{bit-lt, bit-or, bit-high, bit-shl, bit-shl-low, bit-shr, bit-cut, bit-of-zero, bit-set-lt}
+use Rattle.words.specs.laws.Bits.{bit-lt, bit-or, bit-xor, bit-high, bit-shl, bit-shl-low, bit-shr, bit-cut, bit-of-zero, bit-set-lt}
 use Rattle.words.specs.inner.Words.{Tail}
-use Rattle.words.specs.inner.Marks.{mark, Marked, withMark, Added, Clear, Lowest}
+use Rattle.words.specs.inner.Marks.{mark, Marked, withMark, withoutMark, Added, Removed, Clear, Lowest}
 
--- ---- a mark more
+-- ---- a mark more, and one less
 
 power-same : (i : ℕ) → bit i (2 ^ i) ≡ 1
 unfolding bit
@@ -29,34 +29,50 @@ power-other i j x =
     ]
 
 module _ (l : List ℕ) (n : ℕ) (h : n / 64 < length l) where
-  same-word : (j : ℕ) → j / 64 ≡ n / 64 → mark (withMark l n) j ≡ max (mark l j) (bit (j % 64) (2 ^ (n % 64)))
-  unfolding mark withMark
-  same-word j q =
-      ap (λ (k : ℕ). bit (j % 64) (getD (withMark l n) k 0)) q
-      ∙ ap (bit (j % 64)) (getD-set-same l (n / 64) (bitOr (getD l (n / 64) 0) (2 ^ (n % 64))) 0 h)
-      ∙ bit-or (j % 64) (getD l (n / 64) 0) (2 ^ (n % 64))
-      ∙ ap (λ (k : ℕ). max (bit (j % 64) (getD l k 0)) (bit (j % 64) (2 ^ (n % 64)))) (sym q)
+  -- another word where n's stands: ids of the same word, and of others
+  new-word : (v j : ℕ) → j / 64 ≡ n / 64 → mark (set l (n / 64) v) j ≡ bit (j % 64) v
+  unfolding mark
+  new-word v j q =
+      ap (λ (k : ℕ). bit (j % 64) (getD (set l (n / 64) v) k 0)) q ∙ ap (bit (j % 64)) (getD-set-same l (n / 64) v 0 h)
 
-  other-word : (j : ℕ) → (j / 64 ≡ n / 64 → ⊥) → mark (withMark l n) j ≡ mark l j
-  unfolding mark withMark
-  other-word j x = ap (bit (j % 64)) (getD-set-other l (n / 64) (j / 64) _ 0 x)
+  old-word : (j : ℕ) → j / 64 ≡ n / 64 → bit (j % 64) (getD l (n / 64) 0) ≡ mark l j
+  unfolding mark
+  old-word j q = ap (λ (k : ℕ). bit (j % 64) (getD l k 0)) (sym q)
+
+  other-word : (v j : ℕ) → (j / 64 ≡ n / 64 → ⊥) → mark (set l (n / 64) v) j ≡ mark l j
+  unfolding mark
+  other-word v j x = ap (bit (j % 64)) (getD-set-other l (n / 64) (j / 64) v 0 x)
+
+  abbrev own : ℕ → ℕ
+  own j = bit (j % 64) (2 ^ (n % 64))
+
+  same-word : (j : ℕ) → j / 64 ≡ n / 64 → mark (withMark l n) j ≡ max (mark l j) (own j)
+  unfolding withMark
+  same-word j q =
+      new-word _ j q ∙ bit-or (j % 64) (getD l (n / 64) 0) (2 ^ (n % 64)) ∙ ap (λ (k : ℕ). max k (own j)) (old-word j q)
+
+  turned-word : (j : ℕ) → j / 64 ≡ n / 64 → mark (withoutMark l n) j ≡ (mark l j + own j) % 2
+  unfolding withoutMark
+  turned-word j q =
+      new-word _ j q ∙ bit-xor (j % 64) (getD l (n / 64) 0) (2 ^ (n % 64)) ∙ ap (λ (k : ℕ). (k + own j) % 2) (old-word j q)
 
   mark-lt : (j : ℕ) → mark l j < 2
   unfolding mark
   mark-lt j = bit-lt (j % 64) (getD l (j / 64) 0)
 
-  with-length : length (withMark l n) ≡ length l
+  with-other : (j : ℕ) → (j / 64 ≡ n / 64 → ⊥) → Marked (withMark l n) j → Marked l j
   unfolding withMark
-  with-length = length-set l (n / 64) _
+  with-other j y m = sym (other-word _ j y) ∙ m
 
   pub mark-more : Added (λ j. j ≡ n) l (withMark l n)
+  unfolding withMark
   mark-more =
       record {
-        long = with-length;
+        long = length-set l (n / 64) _;
         kept = λ j m.
             elim (ℕ-discrete (j / 64) (n / 64)) [
               | yes q ↦ omega (arith, same-word j q, bit-lt (j % 64) (2 ^ (n % 64)))
-              | no x ↦ other-word j x ∙ m
+              | no x ↦ other-word _ j x ∙ m
             ];
         put = λ j q. rw q (omega (arith, same-word n refl, power-same (n % 64), mark-lt n));
         only = λ j m. only j m;
@@ -69,9 +85,41 @@ module _ (l : List ℕ) (n : ℕ) (h : n / 64 < length l) where
             | no x ↦
                 elim (ℕ-discrete (j / 64) (n / 64)) [
                   | yes q ↦ inl (omega (arith, same-word j q, power-other (n % 64) (j % 64) (omega arith)))
-                  | no y ↦ inl (sym (other-word j y) ∙ m)
+                  | no y ↦ inl (with-other j y m)
                 ]
           ]
+
+  -- n is marked: then its mark alone goes
+  module _ (given : Marked l n) where
+    less-kept : (j : ℕ) → (j ≡ n → ⊥) → Marked l j → Marked (withoutMark l n) j
+    unfolding withoutMark
+    less-kept j x m =
+        elim (ℕ-discrete (j / 64) (n / 64)) [
+          | yes q ↦ omega (arith, turned-word j q, power-other (n % 64) (j % 64) (omega arith), m)
+          | no y ↦ other-word _ j y ∙ m
+        ]
+
+    less-only : (j : ℕ) → Marked (withoutMark l n) j → Marked l j
+    unfolding withoutMark
+    less-only j m =
+        elim (ℕ-discrete j n) [
+          | yes e ↦ rw e given
+          | no x ↦
+              elim (ℕ-discrete (j / 64) (n / 64)) [
+                | yes q ↦ omega (arith, turned-word j q, power-other (n % 64) (j % 64) (omega arith), mark-lt j, m)
+                | no y ↦ sym (other-word _ j y) ∙ m
+              ]
+        ]
+
+    pub mark-less : Removed n l (withoutMark l n)
+    unfolding withoutMark
+    mark-less =
+        record {
+          long = length-set l (n / 64) _;
+          kept = less-kept;
+          only = less-only;
+          gone = λ m. omega (arith, turned-word n refl, power-same (n % 64), given, m);
+        }
 
 -- nothing is marked in zeros
 zeros-at : (n k : ℕ) → _≡_ {A = ℕ} (getD (replicate n 0) k 0) 0

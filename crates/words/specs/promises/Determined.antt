@@ -7,7 +7,7 @@ use Rattle.words.specs.declared.found.Found.{Found}
 use Rattle.words.specs.Agree.{Agrees}
 use Rattle.words.specs.inner.Decides.{Decides}
 use Rattle.words.specs.laws.Decides.{decides-unique}
-use Rattle.words.specs.inner.Marks.{Marked, withMark, Lowest}
+use Rattle.words.specs.inner.Marks.{Marked, withMark, withoutMark, Lowest}
 use Rattle.words.specs.laws.Marks.{lowest-unique}
 use Rattle.words.specs.inner.Words.{less, lesser, WordInverse, over, Top, Tail}
 use Rattle.words.specs.laws.Modular.{inverse-unique}
@@ -65,6 +65,9 @@ pick-between-determined lo hi least most = picked-unique (Between (Agrees lo hi)
 -- ---- marks
 pub mark-determined : (l : List ℕ) (n : ℕ) (r s : List ℕ) → r ≡ withMark l n → s ≡ withMark l n → r ≡ s
 mark-determined l n r s = equal
+
+pub unmark-determined : (l : List ℕ) (n : ℕ) (r s : List ℕ) → r ≡ withoutMark l n → s ≡ withoutMark l n → r ≡ s
+unmark-determined l n r s = equal
 
 pub marked-determined : (l : List ℕ) (n : ℕ) (r s : Bool) → Decides (Marked l n) r → Decides (Marked l n) s → r ≡ s
 marked-determined l n = decides-unique (Marked l n)
