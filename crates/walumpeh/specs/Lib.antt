@@ -4,6 +4,7 @@ pub mod Offered
 pub mod Calls
 pub mod Needs
 pub mod Judgements
+pub mod Mends
 pub mod Runs
 pub mod Batches
 pub mod promises

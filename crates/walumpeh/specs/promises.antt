@@ -3,5 +3,6 @@ pub mod Batches
 pub mod Determined
 pub mod Had
 pub mod Judgements
+pub mod Mends
 pub mod Needs
 pub mod Runs

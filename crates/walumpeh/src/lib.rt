@@ -1,9 +1,11 @@
-// The C interface: the problem check, the run, how long a tape it needs, the judgement of another solver's model, and the picks of
-// a single node, on numbers and slices. Nothing here trusts its caller: a word past the end of a slice reads as 0, and a node that no accepted problem has is refused.
+// The C interface: the problem check, the run, many of them at once, how long a tape a run needs, the judgement of another
+// solver's model, the mender, and the picks of a single node, on numbers and slices. Nothing here trusts its caller: a word past
+// the end of a slice reads as 0, and a node that no accepted problem has is refused.
 mod batches;
 mod checks;
 mod codes;
 mod judgements;
+mod mends;
 mod needs;
 mod nodes;
 mod offered;
