@@ -85,6 +85,12 @@ static void *model(void *none) {
         abort();
     return none;
 }
+static uint8_t mended[LENGTH];
+static uint16_t map[NODES];
+static void *mend(void *none) {
+    if (wal_mend(problem, LENGTH, mended, LENGTH, map, NODES) != WAL_ACCEPTED || memcmp(problem, mended, LENGTH)) abort();
+    return none;
+}
 /* The kinds with two operands of one width, and the node's width over operands of 64 bits; of 16 for udiv. */
 static const struct {
     uint8_t kind, width;
@@ -133,6 +139,7 @@ int main(void) {
                  {"wal_batch", batch, WAL_STACK},
                  {"wal_need", need, WAL_STACK},
                  {"wal_model", model, WAL_MODEL_STACK},
+                 {"wal_mend", mend, WAL_MEND_STACK},
                  {"wal_pick", picks, WAL_STACK},
                  {"wal_essential", essential, WAL_STACK}};
     int status = 0;

@@ -15,7 +15,8 @@
    Calls share nothing, keep nothing and allocate nothing: any number may run at once, on any threads.
    A call takes at most WAL_STACK bytes of stack (wal_run the most, for the pairs of up to 1,024 nodes and the index of who reads each), but
    for wal_model, which takes at most WAL_MODEL_STACK whatever the text (for the values of as many nodes, and
-   where the names of their variables stand). */
+   where the names of their variables stand), and wal_mend, which takes at most WAL_MEND_STACK (for the file as it
+   will be, and who reads which node). */
 #ifndef WALUMPEH_H
 #define WALUMPEH_H
 
@@ -26,7 +27,7 @@
 extern "C" {
 #endif
 
-enum { WAL_STACK = 27648, WAL_MODEL_STACK = 49152 };
+enum { WAL_STACK = 27648, WAL_MODEL_STACK = 49152, WAL_MEND_STACK = 40960 };
 
 /* What a node computes. Fields a, b, c of a node name its operands; extract's b is its lowest bit. */
 enum {
@@ -63,6 +64,8 @@ enum {
     WAL_WIDTH = 8,         /* [node] the width is 0 or over 64 */
     WAL_DIVISION = 20,     /* [node] a division of more than 16 bits */
     WAL_OPERAND = 9,       /* [node] an operand's id is not below the node's own */
+    WAL_OPERAND_NO_NODE = 21, /* [node] an operand's id is no node's (wal_mend, in place of 9) */
+    WAL_CIRCLE = 22,       /* [node] it can never be placed: operands form a circle (wal_mend) */
     WAL_UNUSED_FIELD = 10, /* [node] a field that the kind does not use is not zero */
     WAL_WIDTH_RULE = 11,   /* [node] the widths do not fit */
     WAL_PAIR = 12,         /* [node] lo, hi are not a ternary word of the width, or a constant's differ */
@@ -73,6 +76,7 @@ enum {
     WAL_STARTS = 17,       /* more than 256 starts, or lengths or budgets that are not one a start */
     WAL_LENGTHS = 18,      /* the lengths' sum exceeds the tape */
     WAL_FEW_FOR_STARTS = 19, /* fewer places for values than starts times nodes */
+    WAL_SHORT_OUTPUT = 25, /* a lent output is too short (wal_mend) */
     WAL_NAMES = 30,          /* the list has too few or many names, or one twice */
     WAL_SYNTAX = 31,         /* no get-model answer, or a width outside 1 to 64 */
     WAL_UNKNOWN_NAME = 32,   /* [entry] no variable has the name */
@@ -162,6 +166,15 @@ uint64_t wal_need(const uint8_t *problem, size_t problem_len, uint16_t budget, u
    0 beside a refusal. Words of out after the second are not touched. */
 uint64_t wal_model(const uint8_t *problem, size_t problem_len, const uint8_t *names, size_t names_len,
                    const uint8_t *text, size_t text_len, uint64_t *out, size_t out_len);
+
+/* A problem put in order whose operands may stand above their readers. Nodes are placed one by one, always the lowest
+   old id whose operands are all placed; operands and roots are renumbered. Refusals: 1 to 6; 7, 8 and 20 node by node;
+   21; 22, whose place is the lowest id that can never be placed; 10 to 12 node by node in the new order, the place
+   being the old id; 13; 16; 25. mended then begins with as many bytes as problem has, which wal_check accepts, and
+   map with the old id of each new one; what lies beyond is not touched. A problem in order comes back byte for byte.
+   Refused, nothing is written. */
+uint64_t wal_mend(const uint8_t *problem, size_t problem_len, uint8_t *mended, size_t mended_len, uint16_t *map,
+                  size_t map_len);
 
 /* The pick from the inverse (which = 0) or consistent (else) set of an operand's position: 1 with the
    value in out[0], 0 where the set is empty, 2 where no accepted problem has such a node, position and

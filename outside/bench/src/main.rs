@@ -6,6 +6,7 @@ mod before;
 mod growth;
 mod instructions;
 mod measure;
+mod mends;
 mod models;
 mod moves;
 mod picks;
@@ -36,6 +37,8 @@ enum Line {
     Batch(Rounds),
     /// Nanoseconds a pick of each kind and set, beside plain Rust
     Picks(Rounds),
+    /// Microseconds to put 1,024 nodes in order, beside plain Rust
+    Mends(Rounds),
     /// Cost as the nodes, the budget and what is above a variable grow; a plot where asked for
     Growth {
         #[command(flatten)]
@@ -97,6 +100,7 @@ fn measure(line: &Line) -> Result<(), String> {
         Line::Above(Rounds { rounds }) => above::table(*rounds),
         Line::Batch(Rounds { rounds }) => batch::table(*rounds),
         Line::Picks(Rounds { rounds }) => picks::table(*rounds),
+        Line::Mends(Rounds { rounds }) => mends::table(*rounds),
         Line::Growth { rounds, svg } => growth::table(rounds.rounds, svg.as_deref())?,
         Line::Models(Rounds { rounds }) => models::table(*rounds)?,
         Line::Instructions { above: true } => instructions::table_above()?,

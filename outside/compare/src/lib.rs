@@ -12,6 +12,7 @@
 //! | `need`    | how long a tape a run takes, and problems that use every word of it           |
 //! | `batches` | many starts of one problem at once, and each by a run of its own              |
 //! | `models`  | what is said of get-model answers, with every refusal and every order of two  |
+//! | `mends`   | files in any order and what they are mended to, with every refusal            |
 //! | `program` | what the program `tvrun` prints, whole                                        |
 //! | `parts`   | work in parts, on all of the machine's processors                             |
 //!
@@ -19,6 +20,7 @@
 
 pub mod batches;
 pub mod fixed;
+pub mod mends;
 pub mod models;
 pub mod more;
 pub mod narrow;
@@ -30,4 +32,4 @@ pub mod runs;
 pub mod subject;
 pub mod wide;
 
-pub use subject::{Batches, Judge, Library, Plain, Subject};
+pub use subject::{Batches, Judge, Library, Mender, Plain, Subject};

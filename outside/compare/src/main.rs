@@ -3,7 +3,7 @@
 use clap::{Parser, ValueEnum};
 use compare::narrow::{self, Extent};
 use compare::runs::{self, Counts, Difference};
-use compare::{batches, fixed, models, need, program, refused, wide, Batches, Library, Plain, Subject};
+use compare::{batches, fixed, mends, models, need, program, refused, wide, Batches, Library, Mender, Plain, Subject};
 use model::{Kind, Verdict};
 use std::path::{Path, PathBuf};
 use std::process::ExitCode;
@@ -76,6 +76,14 @@ enum What {
         #[arg(long, value_name = "FOLDER", default_value = "differences")]
         out: PathBuf,
     },
+    /// Files whose nodes stand in any order, mended: well formed, damaged and circular, with every refusal
+    Mends {
+        #[arg(long, default_value_t = 100_000)]
+        cases: u64,
+        /// Where the file of a difference is written to
+        #[arg(long, value_name = "FOLDER", default_value = "differences")]
+        out: PathBuf,
+    },
     /// The whole output of a program that does as tvrun does, run in a folder of its own
     Program {
         program: PathBuf,
@@ -105,7 +113,7 @@ fn main() -> ExitCode {
     }
 }
 
-fn compare(subject: &(impl Subject + Batches), line: &Line) -> Result<(), String> {
+fn compare(subject: &(impl Subject + Batches + Mender), line: &Line) -> Result<(), String> {
     match &line.what {
         What::Picks { spots, cases } => picks(subject, line.seed, *spots, *cases),
         What::Runs { cases, out } => whole_runs(subject, line.seed, *cases, out),
@@ -113,6 +121,7 @@ fn compare(subject: &(impl Subject + Batches), line: &Line) -> Result<(), String
         What::Batches { cases } => whole_batches(subject, line.seed, *cases),
         What::Need => whole_tapes(subject, line.seed),
         What::Models { cases, out } => answers(line, *cases, out),
+        What::Mends { cases, out } => mended(subject, line.seed, *cases, out),
         What::Program { program, cases } => whole_outputs(program, line.seed, *cases),
     }
 }
@@ -267,6 +276,28 @@ fn answers(line: &Line, cases: u64, out: &Path) -> Result<(), String> {
         "models: {cases} answers, {damaged} more with one byte damaged, no difference, {}",
         seconds(start)
     );
+    match counts.missing().as_slice() {
+        [] => Ok(()),
+        missing => Err(format!("never reached: {}", missing.join(", "))),
+    }
+}
+
+fn mended(subject: &impl Mender, seed: u64, cases: u64, out: &Path) -> Result<(), String> {
+    let start = Instant::now();
+    let counts = mends::compare(subject, seed, cases).map_err(|difference| {
+        let written = written(mends::write_files(&difference.file, out), out);
+        format!("difference at file {} of seed {seed}: {}; {written}", difference.index, difference.what)
+    })?;
+    println!("byte for byte {:>8}\nput in order  {:>8}", counts.same, counts.moved);
+    for number in (1..counts.refusals.len()).filter(|&number| counts.refusals[number] > 0) {
+        println!("refusal {number:<5} {:>8}", counts.refusals[number]);
+    }
+    println!(
+        "refusals 10 to 12 told by an old id where the problem check says another: {}",
+        counts.told_by_old_id
+    );
+    println!("nodes whose values solve the file as it stood: {}", counts.nodes);
+    println!("mends: {cases} files, no difference, {}", seconds(start));
     match counts.missing().as_slice() {
         [] => Ok(()),
         missing => Err(format!("never reached: {}", missing.join(", "))),

@@ -28,6 +28,12 @@ pub trait Judge: Sync {
     fn model(&self, problem: &[u8], names: &[u8], text: &[u8], out: &mut [u64]) -> u64;
 }
 
+/// Problems put in order.
+pub trait Mender: Sync {
+    /// 0 with the mended file and its map written, or a refusal's number + 256 × its place.
+    fn mend(&self, problem: &[u8], mended: &mut [u8], map: &mut [u16]) -> u64;
+}
+
 /// A node, a position and a target, as the calls take them.
 #[derive(Clone, Copy, Debug)]
 pub struct Asked {
@@ -90,6 +96,12 @@ impl Judge for Library {
     }
 }
 
+impl Mender for Library {
+    fn mend(&self, problem: &[u8], mended: &mut [u8], map: &mut [u16]) -> u64 {
+        walumpeh::raw::mend(problem, mended, map)
+    }
+}
+
 /// The model itself: what every subject is to answer at any width.
 pub struct Model;
 
@@ -127,6 +139,12 @@ impl Judge for Model {
     }
 }
 
+impl Mender for Model {
+    fn mend(&self, problem: &[u8], mended: &mut [u8], map: &mut [u16]) -> u64 {
+        model::calls::mend(problem, mended, map)
+    }
+}
+
 /// The search in plain Rust.
 pub struct Plain;
 
@@ -155,5 +173,11 @@ impl Subject for Plain {
 impl Batches for Plain {
     fn batch(&self, l: Lent, values: &mut [u64], answers: &mut [u64]) -> u64 {
         plain::calls::batch(l.problem, l.starts, values, l.tape, l.lengths, l.budgets, answers)
+    }
+}
+
+impl Mender for Plain {
+    fn mend(&self, problem: &[u8], mended: &mut [u8], map: &mut [u16]) -> u64 {
+        plain::calls::mend(problem, mended, map)
     }
 }

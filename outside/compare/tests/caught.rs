@@ -3,7 +3,7 @@
 
 use compare::narrow::{self, Extent};
 use compare::subject::{Asked, Model};
-use compare::{batches, fixed, models, need, runs, wide, Batches, Judge, Subject};
+use compare::{batches, fixed, mends, models, need, runs, wide, Batches, Judge, Mender, Subject};
 use model::batch::{Lent, MOST_STARTS};
 use model::calls::{ANSWER, MODEL_OUT};
 use model::problem::{HEADER, NODE};
@@ -263,6 +263,95 @@ fn wrong_readers_are_caught() {
         NamesTheLastRoot,
     ] {
         assert!(models::compare(&wrong, 1, 2000).is_err(), "{wrong:?} passed");
+    }
+}
+
+/// The model's mender with one answer changed.
+#[derive(Clone, Copy, Debug, PartialEq)]
+enum WrongMender {
+    PlacesTheHighest,
+    RenumbersTheLowestBit,
+    TellsTheNewId,
+    WritesThoughRefused,
+    WritesTheMapTheOtherWayRound,
+    TellsCirclesFirst,
+    LeavesRootsAsTheyWere,
+}
+
+use WrongMender::*;
+
+/// The nodes from the last to the first, and the operands with them.
+fn turned_round(problem: &[u8]) -> Vec<u8> {
+    let nodes = usize::from(u16::from_le_bytes([problem[5], problem[6]]));
+    let mut turned = problem.to_vec();
+    for id in 0..nodes {
+        let (from, to) = (HEADER + NODE * id, HEADER + NODE * (nodes - 1 - id));
+        turned[to..to + NODE].copy_from_slice(&problem[from..from + NODE]);
+        for position in 0..Kind::from_number(problem[from]).map_or(0, Kind::operands) {
+            let field = &mut turned[to + 2 + 2 * position..][..2];
+            let operand = usize::from(u16::from_le_bytes([field[0], field[1]]));
+            field.copy_from_slice(&((nodes - 1 - operand) as u16).to_le_bytes());
+        }
+    }
+    turned
+}
+
+impl Mender for WrongMender {
+    fn mend(&self, problem: &[u8], mended: &mut [u8], map: &mut [u16]) -> u64 {
+        let refusal = Model.mend(problem, mended, map);
+        match (self, refusal & 255) {
+            (PlacesTheHighest, 0) if mended[7..9] == [0, 0] => {
+                let nodes = u16::from_le_bytes([problem[5], problem[6]]);
+                let refusal = Model.mend(&turned_round(problem), mended, map);
+                map[..usize::from(nodes)].iter_mut().for_each(|old| *old = nodes - 1 - *old);
+                refusal
+            }
+            (RenumbersTheLowestBit, 0) => {
+                let count = usize::from(u16::from_le_bytes([problem[5], problem[6]]));
+                let nodes = mended[HEADER..][..NODE * count].chunks_mut(NODE);
+                let extracts = nodes.filter(|node| node[0] == Kind::Extract.number());
+                extracts.for_each(|node| {
+                    let low = usize::from(u16::from_le_bytes([node[4], node[5]]));
+                    let new = map.iter().position(|&old| usize::from(old) == low).unwrap_or(low);
+                    node[4..6].copy_from_slice(&(new as u16).to_le_bytes());
+                });
+                0
+            }
+            (TellsTheNewId, 10..=12) => refusal & 255,
+            (WritesThoughRefused, 11) if !mended.is_empty() => {
+                mended[0] = b'T';
+                refusal
+            }
+            (WritesTheMapTheOtherWayRound, 0) => {
+                let nodes = usize::from(u16::from_le_bytes([problem[5], problem[6]]));
+                let old = map[..nodes].to_vec();
+                old.iter().enumerate().for_each(|(new, &old)| map[usize::from(old)] = new as u16);
+                0
+            }
+            (TellsCirclesFirst, 21) => 22 + (refusal & !255),
+            (LeavesRootsAsTheyWere, 0) => {
+                let nodes = usize::from(u16::from_le_bytes([problem[5], problem[6]]));
+                let roots = HEADER + NODE * nodes;
+                mended[roots..problem.len()].copy_from_slice(&problem[roots..]);
+                0
+            }
+            _ => refusal,
+        }
+    }
+}
+
+#[test]
+fn wrong_menders_are_caught() {
+    for wrong in [
+        PlacesTheHighest,
+        RenumbersTheLowestBit,
+        TellsTheNewId,
+        WritesThoughRefused,
+        WritesTheMapTheOtherWayRound,
+        TellsCirclesFirst,
+        LeavesRootsAsTheyWere,
+    ] {
+        assert!(mends::compare(&wrong, 1, 2000).is_err(), "{wrong:?} passed");
     }
 }
 

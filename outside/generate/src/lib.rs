@@ -11,6 +11,7 @@
 //! | `case`     | everything that a run is lent, of all sorts mixed                      |
 //! | `batches`  | everything that many starts of one problem are lent                    |
 //! | `answers`  | get-model answers of all sorts, with the names of their variables       |
+//! | `shuffled` | problem files whose nodes stand in any order, with the mender's faults    |
 //! | `spots`    | single nodes for picking: operators, pairs, values, targets            |
 //! | `tape`     | the words of a run as it asks for them, some share for the inverse     |
 //! | `families` | the benchmark's families, each with a known solution                   |
@@ -23,6 +24,7 @@ pub mod damage;
 pub mod families;
 pub mod random;
 pub mod rng;
+pub mod shuffled;
 pub mod solved;
 pub mod spots;
 pub mod tape;

@@ -1,5 +1,6 @@
 //! The proved library in safe Rust: the problem check, the run and how long a tape it takes, many runs of one
-//! problem at once, our word for another solver's model, and the picks of a single node.
+//! problem at once, our word for another solver's model, shuffled problems put in order, and the picks of a single
+//! node.
 //!
 //! Every call takes whole slices and answers for every input; nothing has to hold beforehand. Calls
 //! share nothing and may run on several threads. The calls behind them, with the library's own numbers,
@@ -133,6 +134,13 @@ pub fn model(problem: &[u8], names: &[u8], text: &[u8]) -> Result<Judged, Refusa
         [0, root] => Ok(Judged::No(root as u16)),
         _ => Ok(Judged::Yes),
     }
+}
+
+/// Puts a problem in order whose operands stand anywhere: nodes are placed one by one, always the lowest id that is
+/// ready, and operands and roots renumbered. `mended` then begins with as many bytes as the problem has, and `map`
+/// with the old id of each new one; what lies beyond is not touched, and after a refusal nothing is.
+pub fn mend(problem: &[u8], mended: &mut [u8], map: &mut [u16]) -> Result<(), Refusal> {
+    Refusal::of(raw::mend(problem, mended, map))
 }
 
 /// The set that a value is picked from.

@@ -50,6 +50,14 @@ mod calls {
             out: *mut u64,
             out_len: usize,
         ) -> u64;
+        pub fn wal_mend(
+            problem: *const u8,
+            problem_len: usize,
+            mended: *mut u8,
+            mended_len: usize,
+            map: *mut u16,
+            map_len: usize,
+        ) -> u64;
         pub fn wal_pick(
             kind: u8,
             width: u32,
@@ -168,6 +176,22 @@ pub fn model(problem: &[u8], names: &[u8], text: &[u8], out: &mut [u64]) -> u64 
             text.len(),
             out.as_mut_ptr(),
             out.len(),
+        )
+    }
+}
+
+/// The same; where nothing is refused, `mended` begins with the problem in order, and `map` with the old id of each
+/// new one.
+pub fn mend(problem: &[u8], mended: &mut [u8], map: &mut [u16]) -> u64 {
+    // SAFETY: as above.
+    unsafe {
+        calls::wal_mend(
+            problem.as_ptr(),
+            problem.len(),
+            mended.as_mut_ptr(),
+            mended.len(),
+            map.as_mut_ptr(),
+            map.len(),
         )
     }
 }

@@ -33,7 +33,7 @@ impl Refusal {
 
     pub fn at(self) -> Place {
         match self.number {
-            7..=12 | 15 | 20 | 35 | 36 => Place::Node(self.place),
+            7..=12 | 15 | 20..=22 | 35 | 36 => Place::Node(self.place),
             13 | 16 => Place::Root(self.place),
             32..=34 => Place::Entry(self.place),
             _ => Place::Whole,
@@ -63,6 +63,9 @@ impl Refusal {
             18 => "the lengths' sum exceeds the tape",
             19 => "fewer places than starts times nodes",
             20 => "a division of more than 16 bits",
+            21 => "an operand's id is no node's",
+            22 => "the node can never be placed: it reads itself, or operands under it form a circle",
+            25 => "a lent output is too short",
             30 => "too few or too many names for the variables, or one twice",
             31 => "no get-model answer of define-fun entries, or a width outside 1 to 64",
             32 => "no variable has the name",

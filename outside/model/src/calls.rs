@@ -3,6 +3,7 @@
 
 use crate::batch::{batch as model_batch, Lent};
 use crate::judged::{judge, Judged};
+use crate::mended;
 use crate::problem::read;
 use crate::{exact, ones, run as model_run, Answer, Kind, Operator, Outcome, Pair, Refusal, Set, Spot};
 
@@ -64,6 +65,18 @@ pub fn model(problem: &[u8], names: &[u8], text: &[u8], out: &mut [u64]) -> u64 
     };
     *out = answer;
     refusal
+}
+
+/// The mended file and its map at the beginning of the lent places: 0, or the refusal with nothing written.
+pub fn mend(problem: &[u8], file: &mut [u8], map: &mut [u16]) -> u64 {
+    match mended::mend(problem, file.len(), map.len()) {
+        Ok(mended) => {
+            file[..mended.bytes.len()].copy_from_slice(&mended.bytes);
+            map[..mended.map.len()].copy_from_slice(&mended.map);
+            0
+        }
+        Err(refusal) => code(refusal),
+    }
 }
 
 /// The run's answer in numbers; nothing is done where `out` is too short for it.

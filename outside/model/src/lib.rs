@@ -13,6 +13,7 @@
 //! | `batch`      | many starts of one problem: refusals 17 to 19, a run for each start       |
 //! | `recipe`     | demand 3: the tape that leads from a start to a known solution            |
 //! | `judged`     | another solver's model: its text, refusals 30 to 36, the first root that is 0 |
+//! | `mended`     | the mender: the order, refusals 21, 22 and 25, and what it writes          |
 //! | `files`      | the three files of `tvrun`: what they hold and what is printed            |
 //! | `calls`      | the proved library's calls, in its numbers                                |
 
@@ -22,6 +23,7 @@ pub mod definition;
 pub mod exact;
 pub mod files;
 pub mod judged;
+pub mod mended;
 pub mod operator;
 pub mod pairs;
 pub mod problem;

@@ -40,70 +40,87 @@ pub struct Problem {
 }
 
 /// A little-endian number.
-fn number(bytes: &[u8]) -> u64 {
+pub(crate) fn number(bytes: &[u8]) -> u64 {
     bytes.iter().rev().fold(0, |n, &byte| n << 8 | u64::from(byte))
+}
+
+/// A problem's parts: 24 bytes for each node, and the roots.
+pub(crate) struct Parts<'a> {
+    pub nodes: Vec<&'a [u8]>,
+    pub roots: Vec<u16>,
+}
+
+/// The parts of a problem's bytes, or the first refusal of 1 to 6.
+pub(crate) fn parts(bytes: &[u8]) -> Result<Parts<'_>, Refusal> {
+    let refuse = |number| Err(Refusal { number, place: 0 });
+    if bytes.len() < HEADER {
+        return refuse(1);
+    }
+    if &bytes[0..3] != b"TBV" {
+        return refuse(2);
+    }
+    if number(&bytes[3..5]) != 1 {
+        return refuse(3);
+    }
+    let node_count = number(&bytes[5..7]) as usize;
+    if node_count > MOST_NODES {
+        return refuse(4);
+    }
+    let root_count = number(&bytes[7..9]) as usize;
+    if root_count > MOST_ROOTS {
+        return refuse(5);
+    }
+    if bytes.len() != HEADER + NODE * node_count + 2 * root_count {
+        return refuse(6);
+    }
+    let (nodes, roots) = bytes[HEADER..].split_at(NODE * node_count);
+    let roots = roots.chunks(2).map(|part| number(part) as u16);
+    Ok(Parts { nodes: nodes.chunks(NODE).collect(), roots: roots.collect() })
 }
 
 /// The problem that the bytes hold, or the first refusal in the order of checking.
 pub fn read(bytes: &[u8]) -> Result<Problem, Refusal> {
     let refuse = |number, place| Err(Refusal { number, place });
-    if bytes.len() < HEADER {
-        return refuse(1, 0);
-    }
-    if &bytes[0..3] != b"TBV" {
-        return refuse(2, 0);
-    }
-    if number(&bytes[3..5]) != 1 {
-        return refuse(3, 0);
-    }
-    let node_count = number(&bytes[5..7]) as usize;
-    if node_count > MOST_NODES {
-        return refuse(4, 0);
-    }
-    let root_count = number(&bytes[7..9]) as usize;
-    if root_count > MOST_ROOTS {
-        return refuse(5, 0);
-    }
-    if bytes.len() != HEADER + NODE * node_count + 2 * root_count {
-        return refuse(6, 0);
-    }
-    let (nodes, roots) = bytes[HEADER..].split_at(NODE * node_count);
+    let parts = parts(bytes)?;
     let mut problem = Problem::default();
-    for part in nodes.chunks(NODE) {
+    for part in parts.nodes {
         let node = read_node(part, &problem.nodes)?;
         problem.nodes.push(node);
     }
-    for (place, part) in roots.chunks(2).enumerate() {
-        let root = number(part) as u16;
+    for (place, &root) in parts.roots.iter().enumerate() {
         match problem.nodes.get(root as usize) {
             Some(node) if node.width == 1 => problem.roots.push(root),
             _ => return refuse(13, place),
         }
     }
     let repeats = |&place: &usize| problem.roots[..place].contains(&problem.roots[place]);
-    match (0..root_count).find(repeats) {
+    match (0..problem.roots.len()).find(repeats) {
         Some(place) => refuse(16, place),
         None => Ok(problem),
     }
+}
+
+/// What a node's 24 bytes say, or the first refusal of 7, 8 and 20.
+pub(crate) fn node_of(part: &[u8]) -> Result<Node, u8> {
+    let kind = Kind::from_number(part[0]).ok_or(7)?;
+    let width = u32::from(part[1]);
+    if width == 0 || width > 64 {
+        return Err(8);
+    }
+    if width > kind.widest() {
+        return Err(20);
+    }
+    let fields = [2, 4, 6].map(|at| number(&part[at..at + 2]) as u16);
+    let pair = Pair { lo: number(&part[8..16]), hi: number(&part[16..24]) };
+    Ok(Node { kind, width, fields, pair })
 }
 
 /// One node from its 24 bytes, after those before it; or its first refusal of 7, 8, 20 and 9 to 12.
 fn read_node(part: &[u8], before: &[Node]) -> Result<Node, Refusal> {
     let own = before.len();
     let refuse = |number| Err(Refusal { number, place: own });
-    let Some(kind) = Kind::from_number(part[0]) else {
-        return refuse(7);
-    };
-    let width = u32::from(part[1]);
-    if width == 0 || width > 64 {
-        return refuse(8);
-    }
-    if width > kind.widest() {
-        return refuse(20);
-    }
-    let fields = [2, 4, 6].map(|at| number(&part[at..at + 2]) as u16);
-    let pair = Pair { lo: number(&part[8..16]), hi: number(&part[16..24]) };
-    let node = Node { kind, width, fields, pair };
+    let node = node_of(part).map_err(|number| Refusal { number, place: own })?;
+    let Node { kind, width, fields, pair } = node;
     if node.operands().iter().any(|&id| id as usize >= own) {
         return refuse(9);
     }
@@ -121,7 +138,7 @@ fn read_node(part: &[u8], before: &[Node]) -> Result<Node, Refusal> {
 }
 
 /// A node's operator, where its operands are among `nodes`.
-fn operator(node: &Node, nodes: &[Node]) -> Operator {
+pub(crate) fn operator(node: &Node, nodes: &[Node]) -> Operator {
     let mut widths = [0; 3];
     for (width, &id) in widths.iter_mut().zip(node.operands()) {
         *width = nodes[id as usize].width;

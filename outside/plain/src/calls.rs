@@ -4,6 +4,7 @@
 use crate::kind::{COUNT, EXTRACT};
 use crate::layout::{check as check_problem, height, operands, widest, Refusal};
 use crate::mask;
+use crate::mending::mend as mend_problem;
 use crate::picking::{essential as is_essential, pick_consistent, pick_inverse, Spot};
 use crate::search::{batch as run_batch, run as run_problem, run_evaluating_all, Answer, Outcome};
 
@@ -83,6 +84,13 @@ pub fn need(problem: &[u8], budget: u16, out: &mut [u64]) -> u64 {
     };
     *out = [height, moves * (1 + 2 * height)];
     refusal
+}
+
+/// The same; where nothing is refused, `mended` begins with the problem in order, and `map` with the old id of each
+/// new one.
+#[inline(never)]
+pub fn mend(problem: &[u8], mended: &mut [u8], map: &mut [u16]) -> u64 {
+    mend_problem(problem, mended, map).map_or_else(code, |()| 0)
 }
 
 /// 1 with the value in `out`, 0 where the set (0 inverse, else consistent) is empty, 2 where the

@@ -90,7 +90,7 @@ pub fn check(bytes: &[u8]) -> Result<Problem<'_>, Refusal> {
 }
 
 /// The header's refusals, 1 to 6.
-fn parts(bytes: &[u8]) -> Result<Problem<'_>, u8> {
+pub fn parts(bytes: &[u8]) -> Result<Problem<'_>, u8> {
     let Some((header, rest)) = bytes.split_first_chunk::<HEADER>() else {
         return Err(1);
     };
@@ -115,8 +115,9 @@ fn parts(bytes: &[u8]) -> Result<Problem<'_>, u8> {
     Ok(Problem { nodes: nodes.as_chunks().0, roots: roots.as_chunks().0 })
 }
 
-/// A node's refusals, 7, 8, 20 and 9 to 12.
-fn check_node(node: &Node, before: &[Node]) -> Result<(), u8> {
+/// A node's refusals, 7, 8 and 20.
+#[inline]
+pub fn check_kind(node: &Node) -> Result<(), u8> {
     let (kind, w) = (kind(node), width(node));
     if kind >= COUNT {
         return Err(7);
@@ -127,6 +128,13 @@ fn check_node(node: &Node, before: &[Node]) -> Result<(), u8> {
     if w > widest(kind) {
         return Err(20);
     }
+    Ok(())
+}
+
+/// A node's refusals, 7, 8, 20 and 9 to 12.
+fn check_node(node: &Node, before: &[Node]) -> Result<(), u8> {
+    let (kind, w) = (kind(node), width(node));
+    check_kind(node)?;
     let count = operands(kind);
     let mut widths = [0; 3];
     for (position, operand_width) in widths.iter_mut().enumerate().take(count) {

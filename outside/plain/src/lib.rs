@@ -10,11 +10,13 @@
 //! | `values`  | evaluation and fixed bits of all nodes                    |
 //! | `readers` | who reads each node, and evaluation above a variable      |
 //! | `search`  | the run, and many starts of one problem                   |
+//! | `mending` | a shuffled problem put in order                           |
 //! | `calls`   | the library's calls, in its numbers                       |
 
 pub mod calls;
 pub mod layout;
 pub mod member;
+pub mod mending;
 pub mod picking;
 pub mod readers;
 pub mod search;

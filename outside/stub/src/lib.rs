@@ -96,6 +96,21 @@ pub unsafe extern "C" fn wal_model(
 }
 
 /// # Safety
+/// Each pointer and length are those of a slice; those that are written overlap no other.
+#[no_mangle]
+pub unsafe extern "C" fn wal_mend(
+    problem: *const u8,
+    problem_len: usize,
+    mended: *mut u8,
+    mended_len: usize,
+    map: *mut u16,
+    map_len: usize,
+) -> u64 {
+    let problem = from_raw_parts(problem, problem_len);
+    calls::mend(problem, from_raw_parts_mut(mended, mended_len), from_raw_parts_mut(map, map_len))
+}
+
+/// # Safety
 /// Each pointer and length are those of a slice.
 #[no_mangle]
 pub unsafe extern "C" fn wal_pick(

@@ -5,6 +5,7 @@ mod build;
 mod check;
 mod example;
 mod export;
+mod mend;
 mod model;
 mod need;
 mod run;
@@ -20,6 +21,7 @@ pub enum Command {
     Build(build::Args),
     Show(show::Args),
     Check(check::Args),
+    Mend(mend::Args),
     Need(need::Args),
     Tape(tape::Args),
     Run(run::Args),
@@ -43,6 +45,7 @@ impl Command {
             Command::Build(args) => build::run(&args),
             Command::Show(args) => show::run(&args),
             Command::Check(args) => check::run(&args),
+            Command::Mend(args) => mend::run(&args),
             Command::Need(args) => need::run(&args),
             Command::Tape(args) => tape::run(&args),
             Command::Run(args) => run::run(&args),

@@ -2,8 +2,8 @@
 
 use crate::at::At;
 
-const COMMANDS: [&str; 10] =
-    ["build", "show", "check", "need", "tape", "run", "batch", "export", "model", "example"];
+const COMMANDS: [&str; 11] =
+    ["build", "show", "check", "mend", "need", "tape", "run", "batch", "export", "model", "example"];
 
 #[test]
 fn help_names_every_command() {
@@ -28,6 +28,7 @@ fn every_command_has_help() {
     }
     for (command, words) in [
         ("build", ["--rootless", "root ok"]),
+        ("mend", ["--map <FILE>", "byte for byte"]),
         ("need", ["--budget <BUDGET>", "longest chain H"]),
         ("tape", ["--starts <K>", "[default: 95]"]),
         ("batch", ["--only <K>", "starts K model M spent S"]),

@@ -6,6 +6,7 @@ mod at;
 mod batches;
 mod faults;
 mod help;
+mod mends;
 mod models;
 mod printing;
 mod tour;
