@@ -2,5 +2,6 @@
 pub mod Determined
 pub mod Placing
 pub mod Mended
+pub mod Circle
 pub mod Late
 pub mod Examples

@@ -103,6 +103,19 @@ free-set [] i v = omega arith
 free-set (x ∷ l) zero v = omega (arith, flag-most (eqb x none))
 free-set (x ∷ l) (suc i) v = omega (arith, free-set l i v)
 
+-- one that was free takes one away
+free-step : (l : List ℕ) (x v : ℕ) → x < length l → getD l x 0 ≡ none → (v ≡ none → ⊥) → free (set l x v) + 1 ≤ free l
+unfolding free
+free-step [] x v h e n = absurd (not-suc-le-zero h)
+free-step (y ∷ l) zero v h e n = rw (ne-eqb v none n, eq-eqb y none e) (omega arith)
+free-step (y ∷ l) (suc x) v h e n = omega (arith, free-step l x v (omega arith) e n)
+
+free-some : (l : List ℕ) (x : ℕ) → x < length l → getD l x 0 ≡ none → 1 ≤ free l
+unfolding free
+free-some [] x h e = absurd (not-suc-le-zero h)
+free-some (y ∷ l) zero h e = rw (eq-eqb y none e) (omega arith)
+free-some (y ∷ l) (suc x) h e = omega (arith, free-some l x (omega arith) e)
+
 free-none : (l : List ℕ) → ((i : ℕ) → i < length l → placed l i ≡ true) → free l ≡ 0
 unfolding free placed
 free-none [] h = refl
@@ -202,6 +215,50 @@ module _ (s : List ℕ) where
             omega (arith, least-free m, ap free q)
         | no x ↦ omega (arith, stuck-free k m h (omega arith), free-set (numbers s m) (old s m) m, ap free (numbers-next m))
       ]
+
+  -- ---- after as many placings as there are nodes nothing is ready
+
+  -- once nothing is ready, all stays as it is
+  stays : (k m : ℕ) → nodeCount s ≤ old s k → k ≤ m → numbers s m ≡ numbers s k
+  unfolding old
+  stays k zero h l = let e : zero ≡ k = omega arith in ap (numbers s) e
+  stays k (suc m) h l =
+      elim (ℕ-discrete k (suc m)) [
+        | yes e ↦ ap (numbers s) (sym e)
+        | no x ↦
+            let q : numbers s m ≡ numbers s k = stays k m h (omega arith) in
+            let o : nodeCount s ≤ old s m = rw (ap (lowestReady s) q) h in
+            numbers-next m ∙ set-out (numbers s m) (old s m) m (let n = length-numbers m in omega arith) ∙ q
+      ]
+
+  most-free : nodeCount s ≤ 1024 → (k : ℕ) → k ≤ nodeCount s → ((j : ℕ) → j < k → old s j < nodeCount s) → free (numbers s k) + k ≤ nodeCount s
+  most-free few zero h busy = omega (arith, ap free numbers-none ∙ free-replicate (nodeCount s))
+  most-free few (suc k) h busy =
+      let o = busy k (omega arith) in
+      let n = length-numbers k in
+      omega (
+        arith,
+        most-free few k (omega arith) (λ j l. busy j (omega arith)),
+        ap free (numbers-next k),
+        free-step (numbers s k) (old s k) k (omega arith) (ready-facts s (numbers s k) (old s k) (old-ready k o) .0) (λ e. absurd (omega arith)),
+      )
+
+  pub end-unready : nodeCount s ≤ 1024 → (i : ℕ) → i < nodeCount s → ready s (numbers s (nodeCount s)) i ≡ true → ⊥
+  end-unready few i h r =
+      let busy : (j : ℕ) → j < nodeCount s → old s j < nodeCount s =
+      λ j l.
+      elim (decLt (old s j) (nodeCount s)) [
+        | yes y ↦ y
+        | no x ↦
+            let q : ready s (numbers s j) i ≡ true = rw (stays j (nodeCount s) (omega arith) (omega arith)) at r in
+            absurd (omega (arith, old-lowest j i q))
+      ] in
+      let n = length-numbers (nodeCount s) in
+      omega (
+        arith,
+        most-free few (nodeCount s) (le-refl (nodeCount s)) busy,
+        free-some (numbers s (nodeCount s)) i (omega arith) (ready-facts s (numbers s (nodeCount s)) i r .0),
+      )
 
   -- every old id is placed in the end: that is what it says that no id can never be placed
   pub all-placed : neverPlaced s ≡ nodeCount s → AllPlaced s
