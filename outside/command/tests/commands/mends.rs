@@ -43,7 +43,10 @@ fn sum(name: &str) -> (At, Vec<u8>, Vec<u8>) {
 #[test]
 fn a_shuffled_problem_is_put_in_order() {
     let (at, _, _) = sum("mended");
-    at.fails("check shuffled.tbv", "refused 9 at 0: node 0: an operand's id is not below the node's own");
+    at.fails(
+        "check shuffled.tbv",
+        "shuffled.tbv: refused 9 at 0: node 0: an operand's id is not below the node's own",
+    );
     at.prints("mend shuffled.tbv mended.tbv --map map.bin", "");
     assert_eq!(at.read("map.bin"), [2, 0, 3, 0, 4, 0, 1, 0, 0, 0]);
     let shown = at.printed("show mended.tbv");
