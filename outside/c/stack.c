@@ -16,6 +16,8 @@ enum { STARTS = 3 };
 static uint64_t values[NODES], tape[WORDS], out[WAL_RUN_OUT];
 static uint64_t places[STARTS * NODES], lengths[STARTS] = {30000, 30000, 40000}, answers[STARTS * WAL_ANSWER];
 static uint16_t budgets[STARTS] = {300, 0, 300};
+static uint64_t kept[WAL_MOST_KEPT * NODES];
+static const uint16_t named[] = {1, 0};
 static uint64_t spot[12] = {64, 64, 0, 0, 0, 0, ~0ull, ~0ull, 0, 3, 5, 0};
 static uint64_t narrow[12] = {16, 16, 0, 0, 0, 0, 65535, 65535, 0, 3, 5, 0};
 
@@ -71,6 +73,12 @@ static void *run(void *none) {
 static void *batch(void *none) {
     if (wal_batch(problem, LENGTH, STARTS, places, STARTS * NODES, tape, WORDS, lengths, STARTS, budgets, STARTS, answers,
                   STARTS * WAL_ANSWER) != WAL_ACCEPTED)
+        abort();
+    return none;
+}
+static void *gather(void *none) {
+    if (wal_gather(problem, LENGTH, STARTS, places, STARTS * NODES, tape, WORDS, lengths, STARTS, budgets, STARTS, named, 2,
+                   kept, WAL_MOST_KEPT * NODES, answers, STARTS * WAL_ANSWER, out, WAL_GATHER_OUT) != WAL_ACCEPTED)
         abort();
     return none;
 }
@@ -137,6 +145,7 @@ int main(void) {
     } calls[] = {{"wal_check", check, WAL_STACK},
                  {"wal_run", run, WAL_STACK},
                  {"wal_batch", batch, WAL_STACK},
+                 {"wal_gather", gather, WAL_STACK},
                  {"wal_need", need, WAL_STACK},
                  {"wal_model", model, WAL_MODEL_STACK},
                  {"wal_mend", mend, WAL_MEND_STACK},

@@ -77,6 +77,9 @@ enum {
     WAL_LENGTHS = 18,      /* the lengths' sum exceeds the tape */
     WAL_FEW_FOR_STARTS = 19, /* fewer places for values than starts times nodes */
     WAL_SHORT_OUTPUT = 25, /* a lent output is too short (wal_mend) */
+    WAL_NAMED = 23,          /* no name, or more than 8 */
+    WAL_NO_VARIABLE = 24,    /* a name that is no variable, or is given twice */
+    WAL_FEW_TO_KEEP = 26,    /* fewer than 64 times as many places to keep in as nodes */
     WAL_NAMES = 30,          /* the list has too few or many names, or one twice */
     WAL_SYNTAX = 31,         /* no get-model answer, or a width outside 1 to 64 */
     WAL_UNKNOWN_NAME = 32,   /* [entry] no variable has the name */
@@ -118,6 +121,17 @@ enum {
     WAL_MOST_STARTS = 256
 };
 
+/* Where wal_gather puts what in out, how many words it needs there, the most solutions that are kept, and the most
+   names. */
+enum {
+    WAL_GATHER_KEPT = 0,
+    WAL_GATHER_REPEATS = 1,
+    WAL_GATHER_UNKEPT = 2,
+    WAL_GATHER_OUT = 3,
+    WAL_MOST_KEPT = 64,
+    WAL_MOST_NAMES = 8
+};
+
 /* Where wal_need puts what in out, and how many words it needs there. */
 enum { WAL_NEED_CHAIN = 0, WAL_NEED_WORDS = 1, WAL_NEED_OUT = 2 };
 
@@ -150,6 +164,19 @@ uint64_t wal_batch(const uint8_t *problem, size_t problem_len, uint64_t starts, 
                    size_t values_len, const uint64_t *tape, size_t tape_len, const uint64_t *lengths,
                    size_t lengths_len, const uint16_t *budgets, size_t budgets_len, uint64_t *answers,
                    size_t answers_len);
+
+/* The frame bench: wal_batch, and of its models those that differ on the named variables. names has up to 8 ids. The
+   refusals of wal_batch, then 23, 24 and 26, each at place 0 and before any start runs; any of them leaves values,
+   kept and answers as they were. Values and answers are those of wal_batch. Every model that agrees with no kept one
+   on all named variables is kept, in order of arrival, while fewer than 64 are: kept solution k has its N values in
+   the places of kept from k x N on. One that agrees with a kept one is a repeat, room or not; the rest are unkept.
+   Places after the last kept solution are not touched. out takes kept, repeats and unkept; beside a refusal 0, 0 and
+   0. WAL_TOO_SHORT where answers has fewer than 6 x starts words, or out fewer than 3. */
+uint64_t wal_gather(const uint8_t *problem, size_t problem_len, uint64_t starts, uint64_t *values,
+                    size_t values_len, const uint64_t *tape, size_t tape_len, const uint64_t *lengths,
+                    size_t lengths_len, const uint16_t *budgets, size_t budgets_len, const uint16_t *names,
+                    size_t names_len, uint64_t *kept, size_t kept_len, uint64_t *answers, size_t answers_len,
+                    uint64_t *out, size_t out_len);
 
 /* How long a tape a problem needs: refusals 1 to 13, 16 and 20. out takes H, the longest chain of operand
    links under any root, and budget x (1 + 2H); beside a refusal 0 and 0. No move makes more than H steps,

@@ -11,6 +11,7 @@
 //! | `more`    | pairs of runs, of which the second is lent a greater budget and more words    |
 //! | `need`    | how long a tape a run takes, and problems that use every word of it           |
 //! | `batches` | many starts of one problem at once, and each by a run of its own              |
+//! | `gatherings` | solutions that differ on named variables: kept, repeats and unkept          |
 //! | `models`  | what is said of get-model answers, with every refusal and every order of two  |
 //! | `mends`   | files in any order and what they are mended to, with every refusal            |
 //! | `program` | what the program `tvrun` prints, whole                                        |
@@ -20,6 +21,7 @@
 
 pub mod batches;
 pub mod fixed;
+pub mod gatherings;
 pub mod mends;
 pub mod models;
 pub mod more;
@@ -32,4 +34,4 @@ pub mod runs;
 pub mod subject;
 pub mod wide;
 
-pub use subject::{Batches, Judge, Library, Mender, Plain, Subject};
+pub use subject::{Batches, Gather, Judge, Library, Mender, Plain, Subject};

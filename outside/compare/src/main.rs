@@ -3,7 +3,7 @@
 use clap::{Parser, ValueEnum};
 use compare::narrow::{self, Extent};
 use compare::runs::{self, Counts, Difference};
-use compare::{batches, fixed, mends, models, need, program, refused, wide, Batches, Library, Mender, Plain, Subject};
+use compare::{batches, fixed, gatherings, mends, models, need, program, refused, wide, Batches, Library, Mender, Plain, Subject};
 use model::{Kind, Verdict};
 use std::path::{Path, PathBuf};
 use std::process::ExitCode;
@@ -66,6 +66,11 @@ enum What {
         #[arg(long, default_value_t = 20_000)]
         cases: u64,
     },
+    /// Solutions that differ on named variables; with every refusal, and more of them than there is room for
+    Gatherings {
+        #[arg(long, default_value_t = 20_000)]
+        cases: u64,
+    },
     /// Problems that use every word of the tape that they may need, and say ended with one word less
     Need,
     /// What is said of other solvers' models: get-model answers well formed, damaged, and with every refusal
@@ -119,6 +124,7 @@ fn compare(subject: &(impl Subject + Batches + Mender), line: &Line) -> Result<(
         What::Runs { cases, out } => whole_runs(subject, line.seed, *cases, out),
         What::More { cases, out } => pairs(subject, line.seed, *cases, out),
         What::Batches { cases } => whole_batches(subject, line.seed, *cases),
+        What::Gatherings { cases } => whole_gatherings(line, *cases),
         What::Need => whole_tapes(subject, line.seed),
         What::Models { cases, out } => answers(line, *cases, out),
         What::Mends { cases, out } => mended(subject, line.seed, *cases, out),
@@ -249,6 +255,28 @@ fn whole_batches(subject: &(impl Subject + Batches), seed: u64, cases: u64) -> R
     println!("lengths whose sum passes 2^64 {}, small modulo 2^64 {}", counts.over, counts.over_unseen);
     println!("every order of two, the earlier told, {} times or more", counts.rarest());
     println!("batches: {cases} calls, {} not refused, no difference, {}", counts.calls[0], seconds(start));
+    match counts.missing().as_slice() {
+        [] => Ok(()),
+        missing => Err(format!("never reached: {}", missing.join(", "))),
+    }
+}
+
+fn whole_gatherings(line: &Line, cases: u64) -> Result<(), String> {
+    if let Side::Plain = line.subject {
+        return Err("plain Rust does not gather".into());
+    }
+    let start = Instant::now();
+    let counts = gatherings::compare(&Library, line.seed, cases).map_err(|difference| {
+        let (index, what) = (difference.index, difference.what);
+        format!("difference at gathering {index} of seed {}: {what}; {:?}", line.seed, difference.gathering)
+    })?;
+    for (number, count) in counts.calls.iter().enumerate().skip(1).filter(|(_, count)| **count > 0) {
+        println!("refusal {number:<3} {count:>8}");
+    }
+    println!("kept {}, repeats {}, unkept {}", counts.kept, counts.repeats, counts.unkept);
+    println!("calls that fill the room {}, with repeats after that {}", counts.full, counts.repeats_after);
+    println!("every order of two, the earlier told, {} times or more", counts.rarest());
+    println!("gatherings: {cases} calls, {} not refused, no difference, {}", counts.calls[0], seconds(start));
     match counts.missing().as_slice() {
         [] => Ok(()),
         missing => Err(format!("never reached: {}", missing.join(", "))),

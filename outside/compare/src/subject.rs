@@ -22,6 +22,21 @@ pub trait Batches: Sync {
     fn batch(&self, lent: Lent, values: &mut [u64], answers: &mut [u64]) -> u64;
 }
 
+/// Solutions that differ on named variables; plain Rust has no such call.
+pub trait Gather: Sync {
+    /// 0, or the refusal of the whole call; `kept` takes up to 64 solutions, `answers` six words for each start, and `out`
+    /// kept, repeats and unkept.
+    fn gather(
+        &self,
+        lent: Lent,
+        values: &mut [u64],
+        names: &[u16],
+        kept: &mut [u64],
+        answers: &mut [u64],
+        out: &mut [u64],
+    ) -> u64;
+}
+
 /// Our word for another solver's model; plain Rust has no such call.
 pub trait Judge: Sync {
     /// 0, or a refusal's number + 256 × its place; `out` takes 1 for yes and 0 otherwise, and the first root that is 0.
@@ -90,6 +105,21 @@ impl Batches for Library {
     }
 }
 
+impl Gather for Library {
+    fn gather(
+        &self,
+        l: Lent,
+        values: &mut [u64],
+        names: &[u16],
+        kept: &mut [u64],
+        answers: &mut [u64],
+        out: &mut [u64],
+    ) -> u64 {
+        let Lent { problem, starts, tape, lengths, budgets } = l;
+        walumpeh::raw::gather(problem, starts, values, tape, lengths, budgets, names, kept, answers, out)
+    }
+}
+
 impl Judge for Library {
     fn model(&self, problem: &[u8], names: &[u8], text: &[u8], out: &mut [u64]) -> u64 {
         walumpeh::raw::model(problem, names, text, out)
@@ -130,6 +160,20 @@ impl Subject for Model {
 impl Batches for Model {
     fn batch(&self, lent: Lent, values: &mut [u64], answers: &mut [u64]) -> u64 {
         model::calls::batch(lent, values, answers)
+    }
+}
+
+impl Gather for Model {
+    fn gather(
+        &self,
+        lent: Lent,
+        values: &mut [u64],
+        names: &[u16],
+        kept: &mut [u64],
+        answers: &mut [u64],
+        out: &mut [u64],
+    ) -> u64 {
+        model::calls::gather(lent, values, names, kept, answers, out)
     }
 }
 

@@ -3,7 +3,7 @@
 
 use compare::narrow::{self, Extent};
 use compare::subject::{Asked, Model};
-use compare::{batches, fixed, mends, models, need, runs, wide, Batches, Judge, Mender, Subject};
+use compare::{batches, fixed, gatherings, mends, models, need, runs, wide, Batches, Gather, Judge, Mender, Subject};
 use model::batch::{Lent, MOST_STARTS};
 use model::calls::{ANSWER, MODEL_OUT};
 use model::problem::{HEADER, NODE};
@@ -471,6 +471,120 @@ fn wrong_batches_are_caught() {
         CountsThroughAllStarts,
     ] {
         assert!(batches::compare(&wrong, 1, 1000).is_err(), "{wrong:?} passed");
+    }
+}
+
+/// The model's frame bench with one thing changed.
+#[derive(Clone, Copy, Debug, PartialEq)]
+enum WrongBench {
+    ComparesAllVariables,
+    ComparesTheFirstName,
+    ComparesWithTheLastKept,
+    CountsRepeatsAsUnkept,
+    CountsUnkeptAsRepeats,
+    KeepsOneTooFew,
+    KeepsWhatIsNoModel,
+    ClearsTheRest,
+    TakesAnyNode,
+    TakesANameTwice,
+    TellsNamesBeforeTheBatch,
+    CountsThoughItRefuses,
+}
+
+use WrongBench::*;
+
+impl Gather for WrongBench {
+    fn gather(
+        &self,
+        lent: Lent,
+        values: &mut [u64],
+        names: &[u16],
+        kept: &mut [u64],
+        answers: &mut [u64],
+        out: &mut [u64],
+    ) -> u64 {
+        let places = kept.to_vec();
+        let refusal = Model.gather(lent, values, names, kept, answers, out);
+        let nodes = nodes(lent.problem.get(..9).unwrap_or(&[0; 9])) as usize;
+        match (self, refusal & 255) {
+            (_, 255) => return refusal,
+            (TellsNamesBeforeTheBatch, 17..=19) if names.is_empty() => return 23,
+            (TakesAnyNode | TakesANameTwice, 24) => {
+                let is_twice = (1..names.len()).any(|at| names[..at].contains(&names[at]));
+                return if is_twice == (*self == TakesANameTwice) { 0 } else { refusal };
+            }
+            (CountsThoughItRefuses, 1..) => out[2] = 1,
+            (ClearsTheRest, 0) => kept[out[0] as usize * nodes..].fill(0),
+            (_, 0) => {
+                kept.copy_from_slice(&places);
+                let problem = model::problem::read(lent.problem).expect("an accepted problem");
+                let all: Vec<u16> = problem.variables().map(|id| id as u16).collect();
+                let names = match self {
+                    ComparesAllVariables => &all,
+                    ComparesTheFirstName => &names[..1],
+                    _ => names,
+                };
+                let starts =
+                    values.chunks(nodes.max(1)).zip(answers.chunks(ANSWER)).take(lent.starts as usize);
+                out[..3].copy_from_slice(&self.gathered(starts, nodes, names, kept));
+            }
+            _ => {}
+        }
+        refusal
+    }
+}
+
+impl WrongBench {
+    /// What it keeps and counts of the starts' values and answers.
+    fn gathered<'a>(
+        &self,
+        starts: impl Iterator<Item = (&'a [u64], &'a [u64])>,
+        nodes: usize,
+        names: &[u16],
+        kept: &mut [u64],
+    ) -> [u64; 3] {
+        let room = if *self == KeepsOneTooFew { 63 } else { 64 };
+        let (mut count, mut repeats, mut unkept) = (0, 0, 0);
+        for (values, answer) in starts {
+            if answer[0] != 0 || answer[1] > u64::from(*self == KeepsWhatIsNoModel) {
+                continue;
+            }
+            let from = if *self == ComparesWithTheLastKept { count - count.min(1) } else { 0 };
+            let agrees =
+                |at: usize| names.iter().all(|&id| kept[at * nodes + id as usize] == values[id as usize]);
+            let is_full = count == room;
+            if (from..count).any(agrees) && !(is_full && *self == CountsRepeatsAsUnkept) {
+                repeats += 1;
+            } else if !is_full {
+                kept[count * nodes..][..nodes].copy_from_slice(values);
+                count += 1;
+            } else if *self == CountsUnkeptAsRepeats {
+                repeats += 1;
+            } else {
+                unkept += 1;
+            }
+        }
+        [count as u64, repeats, unkept]
+    }
+}
+
+#[test]
+fn wrong_benches_are_caught() {
+    for wrong in [
+        ComparesAllVariables,
+        ComparesTheFirstName,
+        ComparesWithTheLastKept,
+        CountsRepeatsAsUnkept,
+        CountsUnkeptAsRepeats,
+        KeepsOneTooFew,
+        KeepsWhatIsNoModel,
+        ClearsTheRest,
+        TakesAnyNode,
+        TakesANameTwice,
+        TellsNamesBeforeTheBatch,
+        CountsThoughItRefuses,
+    ] {
+        assert!(gatherings::compare(&wrong, 1, 2000).is_err(), "{wrong:?} passed");
     }
 }
 

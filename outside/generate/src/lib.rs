@@ -10,6 +10,7 @@
 //! | `damage`   | one fault in a problem's bytes, for each of the problem's refusals     |
 //! | `case`     | everything that a run is lent, of all sorts mixed                      |
 //! | `batches`  | everything that many starts of one problem are lent                    |
+//! | `gatherings` | the same with names and places to keep solutions in                  |
 //! | `answers`  | get-model answers of all sorts, with the names of their variables       |
 //! | `shuffled` | problem files whose nodes stand in any order, with the mender's faults    |
 //! | `spots`    | single nodes for picking: operators, pairs, values, targets            |
@@ -22,6 +23,7 @@ pub mod builder;
 pub mod case;
 pub mod damage;
 pub mod families;
+pub mod gatherings;
 pub mod random;
 pub mod rng;
 pub mod shuffled;

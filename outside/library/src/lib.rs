@@ -1,6 +1,6 @@
 //! The proved library in safe Rust: the problem check, the run and how long a tape it takes, many runs of one
-//! problem at once, our word for another solver's model, shuffled problems put in order, and the picks of a single
-//! node.
+//! problem at once, solutions gathered from them, our word for another solver's model, shuffled problems put in
+//! order, and the picks of a single node.
 //!
 //! Every call takes whole slices and answers for every input; nothing has to hold beforehand. Calls
 //! share nothing and may run on several threads. The calls behind them, with the library's own numbers,
@@ -97,6 +97,54 @@ pub fn batch(
 /// A start's answer in the library's numbers.
 fn answer_of_start(&[refusal, out @ ..]: &[u64; raw::ANSWER]) -> Result<Answer, Refusal> {
     Refusal::of(refusal).map(|()| Answer::of(out))
+}
+
+/// The most solutions that are kept of one gathering, and the most variables that tell them apart.
+pub const MOST_KEPT: usize = 64;
+pub const MOST_NAMES: usize = 8;
+
+/// What was gathered.
+#[derive(Clone, Debug, PartialEq, Eq)]
+pub struct Gathered {
+    /// Each start's answer, as of a batch.
+    pub answers: Vec<Result<Answer, Refusal>>,
+    /// How many solutions are kept, in order of arrival, N places each.
+    pub kept: usize,
+    /// Models that agree with a kept one on all named variables.
+    pub repeats: u64,
+    /// Models that agree with none and found no room.
+    pub unkept: u64,
+}
+
+/// A batch, and of its models up to 64 that differ on the named variables (up to 8, by their ids): their values of all nodes
+/// in the first places of `kept`, of which there must be 64 × N. Places after the last kept solution stay unchanged, and a
+/// refusal changes nothing.
+pub fn gather(
+    problem: &[u8],
+    values: &mut [u64],
+    tape: &[u64],
+    lengths: &[u64],
+    budgets: &[u16],
+    names: &[u16],
+    kept: &mut [u64],
+) -> Result<Gathered, Refusal> {
+    let (mut answers, mut out) = (vec![0; raw::ANSWER * lengths.len()], [0; raw::GATHER_OUT]);
+    let starts = lengths.len() as u64;
+    Refusal::of(raw::gather(
+        problem,
+        starts,
+        values,
+        tape,
+        lengths,
+        budgets,
+        names,
+        kept,
+        &mut answers,
+        &mut out,
+    ))?;
+    let answers = answers.as_chunks().0.iter().map(answer_of_start).collect();
+    let [kept, repeats, unkept] = out;
+    Ok(Gathered { answers, kept: kept as usize, repeats, unkept })
 }
 
 /// How long a tape a problem's runs take.

@@ -40,6 +40,27 @@ mod calls {
             answers: *mut u64,
             answers_len: usize,
         ) -> u64;
+        pub fn wal_gather(
+            problem: *const u8,
+            problem_len: usize,
+            starts: u64,
+            values: *mut u64,
+            values_len: usize,
+            tape: *const u64,
+            tape_len: usize,
+            lengths: *const u64,
+            lengths_len: usize,
+            budgets: *const u16,
+            budgets_len: usize,
+            names: *const u16,
+            names_len: usize,
+            kept: *mut u64,
+            kept_len: usize,
+            answers: *mut u64,
+            answers_len: usize,
+            out: *mut u64,
+            out_len: usize,
+        ) -> u64;
         pub fn wal_model(
             problem: *const u8,
             problem_len: usize,
@@ -91,6 +112,9 @@ pub const RUN_OUT: usize = 5;
 
 /// How many words `batch` needs for each start's answer: its refusal, verdict, moves, steps, words and nodes evaluated.
 pub const ANSWER: usize = 1 + RUN_OUT;
+
+/// How many words `gather` needs for what was gathered: kept, repeats and unkept.
+pub const GATHER_OUT: usize = 3;
 
 /// How many words `need` needs for its answer: H and the number of words.
 pub const NEED_OUT: usize = 2;
@@ -159,6 +183,46 @@ pub fn batch(
             budgets.len(),
             answers.as_mut_ptr(),
             answers.len(),
+        )
+    }
+}
+
+/// The same, with solutions in `kept`, N words each; `out` takes kept, repeats and unkept, or three zeros.
+#[allow(clippy::too_many_arguments)]
+pub fn gather(
+    problem: &[u8],
+    starts: u64,
+    values: &mut [u64],
+    tape: &[u64],
+    lengths: &[u64],
+    budgets: &[u16],
+    names: &[u16],
+    kept: &mut [u64],
+    answers: &mut [u64],
+    out: &mut [u64],
+) -> u64 {
+    // SAFETY: as above.
+    unsafe {
+        calls::wal_gather(
+            problem.as_ptr(),
+            problem.len(),
+            starts,
+            values.as_mut_ptr(),
+            values.len(),
+            tape.as_ptr(),
+            tape.len(),
+            lengths.as_ptr(),
+            lengths.len(),
+            budgets.as_ptr(),
+            budgets.len(),
+            names.as_ptr(),
+            names.len(),
+            kept.as_mut_ptr(),
+            kept.len(),
+            answers.as_mut_ptr(),
+            answers.len(),
+            out.as_mut_ptr(),
+            out.len(),
         )
     }
 }

@@ -2,6 +2,7 @@
 //! must answer.
 
 use crate::batch::{batch as model_batch, Lent};
+use crate::frames::{gather as model_gather, Gathered};
 use crate::judged::{judge, Judged};
 use crate::mended;
 use crate::problem::read;
@@ -15,6 +16,9 @@ pub const RUN_OUT: usize = 5;
 
 /// How many words a start's answer takes in a batch: its refusal, and what a run's answer takes.
 pub const ANSWER: usize = 1 + RUN_OUT;
+
+/// How many words tell what was gathered: kept, repeats and unkept.
+pub const GATHER_OUT: usize = 3;
 
 /// How many words the answer of `need` takes: H and the number of words.
 pub const NEED_OUT: usize = 2;
@@ -90,15 +94,49 @@ pub fn run(problem: &[u8], values: &mut [u64], tape: &[u64], budget: u16, out: &
 /// The answers of a batch in numbers, six words a start, or the refusal of the whole call, which writes none; nothing is
 /// done where `answers` is too short for them.
 pub fn batch(lent: Lent, values: &mut [u64], answers: &mut [u64]) -> u64 {
-    if (answers.len() as u128) < ANSWER as u128 * u128::from(lent.starts) {
+    if too_short_for(lent.starts, answers) {
         return TOO_SHORT;
     }
     match model_batch(lent, values) {
         Err(refusal) => code(refusal),
         Ok(found) => {
-            for (answer, out) in found.iter().zip(answers.chunks_mut(ANSWER)) {
-                out[0] = numbers(answer, &mut out[1..]);
-            }
+            write_answers(&found, answers);
+            0
+        }
+    }
+}
+
+fn too_short_for(starts: u64, answers: &[u64]) -> bool {
+    (answers.len() as u128) < ANSWER as u128 * u128::from(starts)
+}
+
+fn write_answers(found: &[Answer], answers: &mut [u64]) {
+    for (answer, out) in found.iter().zip(answers.chunks_mut(ANSWER)) {
+        out[0] = numbers(answer, &mut out[1..]);
+    }
+}
+
+/// The same, with what was gathered in `out`: kept, repeats and unkept, each 0 beside a refusal.
+pub fn gather(
+    lent: Lent,
+    values: &mut [u64],
+    names: &[u16],
+    kept: &mut [u64],
+    answers: &mut [u64],
+    out: &mut [u64],
+) -> u64 {
+    let Some(out) = out.first_chunk_mut::<GATHER_OUT>().filter(|_| !too_short_for(lent.starts, answers))
+    else {
+        return TOO_SHORT;
+    };
+    match model_gather(lent, values, names, kept) {
+        Err(refusal) => {
+            *out = [0; GATHER_OUT];
+            code(refusal)
+        }
+        Ok(Gathered { answers: found, kept, repeats, unkept }) => {
+            *out = [kept, repeats, unkept];
+            write_answers(&found, answers);
             0
         }
     }

@@ -11,6 +11,7 @@
 //! | `exact`      | the same sets and pick at every width                                     |
 //! | `run`        | a run: refusals 14 and 15, verdicts and counts                            |
 //! | `batch`      | many starts of one problem: refusals 17 to 19, a run for each start       |
+//! | `frames`     | the frame bench: refusals 23, 24 and 26, and what is kept                 |
 //! | `recipe`     | demand 3: the tape that leads from a start to a known solution            |
 //! | `judged`     | another solver's model: its text, refusals 30 to 36, the first root that is 0 |
 //! | `mended`     | the mender: the order, refusals 21, 22 and 25, and what it writes          |
@@ -22,6 +23,7 @@ pub mod calls;
 pub mod definition;
 pub mod exact;
 pub mod files;
+pub mod frames;
 pub mod judged;
 pub mod mended;
 pub mod operator;

@@ -77,6 +77,44 @@ pub unsafe extern "C" fn wal_batch(
 }
 
 /// # Safety
+/// Each pointer and length are those of a slice; no two that are written overlap.
+#[no_mangle]
+pub unsafe extern "C" fn wal_gather(
+    problem: *const u8,
+    problem_len: usize,
+    starts: u64,
+    values: *mut u64,
+    values_len: usize,
+    tape: *const u64,
+    tape_len: usize,
+    lengths: *const u64,
+    lengths_len: usize,
+    budgets: *const u16,
+    budgets_len: usize,
+    names: *const u16,
+    names_len: usize,
+    kept: *mut u64,
+    kept_len: usize,
+    answers: *mut u64,
+    answers_len: usize,
+    out: *mut u64,
+    out_len: usize,
+) -> u64 {
+    let lent = Lent {
+        problem: from_raw_parts(problem, problem_len),
+        starts,
+        tape: from_raw_parts(tape, tape_len),
+        lengths: from_raw_parts(lengths, lengths_len),
+        budgets: from_raw_parts(budgets, budgets_len),
+    };
+    let values = from_raw_parts_mut(values, values_len);
+    let names = from_raw_parts(names, names_len);
+    let kept = from_raw_parts_mut(kept, kept_len);
+    let answers = from_raw_parts_mut(answers, answers_len);
+    calls::gather(lent, values, names, kept, answers, from_raw_parts_mut(out, out_len))
+}
+
+/// # Safety
 /// Each pointer and length are those of a slice; `out` overlaps no other.
 #[no_mangle]
 pub unsafe extern "C" fn wal_model(
