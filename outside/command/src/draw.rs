@@ -1,4 +1,4 @@
-//! Starts and tapes by chance: what `tape` writes.
+//! Starts and tapes by chance: what `tape` writes, and `gather` runs.
 
 use crate::fault::Fault;
 use crate::files::tapes::Tapes;

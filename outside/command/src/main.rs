@@ -36,7 +36,7 @@ struct Line {
 const STATUS: &str = "\
 Where a file is read or written, '-' is standard input or output.
 Exit status: 0 done; 1 refused, or a file cannot be read or written; 2 the command line is not understood.
-run, batch and model have more.";
+run, batch, gather and model have more.";
 
 fn main() -> ExitCode {
     let mut trouble = ExitCode::FAILURE;

@@ -5,6 +5,7 @@ mod build;
 mod check;
 mod example;
 mod export;
+mod gather;
 mod mend;
 mod model;
 mod need;
@@ -26,6 +27,7 @@ pub enum Command {
     Tape(tape::Args),
     Run(run::Args),
     Batch(batch::Args),
+    Gather(gather::Args),
     Export(export::Args),
     Model(model::Args),
     Example(example::Args),
@@ -50,6 +52,7 @@ impl Command {
             Command::Tape(args) => tape::run(&args),
             Command::Run(args) => run::run(&args),
             Command::Batch(args) => batch::run(&args),
+            Command::Gather(args) => gather::run(&args),
             Command::Export(args) => export::run(&args),
             Command::Model(args) => model::run(&args),
             Command::Example(args) => example::run(&args),

@@ -2,8 +2,8 @@
 
 use crate::at::At;
 
-const COMMANDS: [&str; 11] =
-    ["build", "show", "check", "mend", "need", "tape", "run", "batch", "export", "model", "example"];
+const COMMANDS: [&str; 12] =
+    ["build", "show", "check", "mend", "need", "tape", "run", "batch", "gather", "export", "model", "example"];
 
 #[test]
 fn help_names_every_command() {
@@ -31,6 +31,7 @@ fn every_command_has_help() {
         ("mend", ["--map <FILE>", "byte for byte"]),
         ("need", ["--budget <BUDGET>", "longest chain H"]),
         ("tape", ["--starts <K>", "[default: 95]"]),
+        ("gather", ["--name <X>", "kept K repeats R unkept U"]),
         ("batch", ["--only <K>", "starts K model M spent S"]),
         ("run", ["--evaluated", "3 spent, 4 ended, 5 closed"]),
         ("export", ["--answer <FILE>", "--pin <ID=VALUE>"]),

@@ -5,6 +5,7 @@ mod answers;
 mod at;
 mod batches;
 mod faults;
+mod gatherings;
 mod help;
 mod mends;
 mod models;

@@ -3,12 +3,13 @@
 use crate::at::{text, At, WALUMPEH};
 use std::process::{Command, Output};
 
-const PRINTING: [&str; 9] = [
+const PRINTING: [&str; 10] = [
     "show problem.tbv",
     "check problem.tbv",
     "need problem.tbv",
     "run",
     "batch",
+    "gather problem.tbv --name 0",
     "export problem.tbv",
     "export problem.tbv --model",
     "--help",
