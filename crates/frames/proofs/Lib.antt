@@ -1,0 +1,4 @@
+-- Laws for the proofs of this crate's functions.
+pub mod Refusing
+pub mod Keeping
+pub mod Whole

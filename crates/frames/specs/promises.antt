@@ -1,0 +1,4 @@
+-- What is promised, as theorems over all that the contracts allow.
+pub mod Accepted
+pub mod Determined
+pub mod Kept
