@@ -7,5 +7,6 @@ pub mod Judgements
 pub mod Mends
 pub mod Runs
 pub mod Batches
+pub mod Gathers
 pub mod promises
 pub mod laws

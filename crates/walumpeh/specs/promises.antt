@@ -1,6 +1,7 @@
 -- What is promised, as theorems over all that the contracts allow.
 pub mod Batches
 pub mod Determined
+pub mod Gathers
 pub mod Had
 pub mod Judgements
 pub mod Mends

@@ -4,6 +4,7 @@
 mod batches;
 mod checks;
 mod codes;
+mod gathers;
 mod judgements;
 mod mends;
 mod needs;
