@@ -5,6 +5,7 @@ pub mod Calls
 pub mod Needs
 pub mod Judgements
 pub mod Mends
+pub mod Conversions
 pub mod Runs
 pub mod Batches
 pub mod Gathers

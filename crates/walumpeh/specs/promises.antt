@@ -1,5 +1,6 @@
 -- What is promised, as theorems over all that the contracts allow.
 pub mod Batches
+pub mod Conversions
 pub mod Determined
 pub mod Gathers
 pub mod Had

@@ -1,8 +1,7 @@
 // What every call but the two picks answers: 0 where nothing is refused, else the refusal's number + 256 times its place.
 ghost use mathlib.Core.Path.{_≡_};
-ghost use Prim.Native.Nat.{min};
-ghost use Rattle.search.specs.Answers.{refusalCode};
-ghost use Rattle.walumpeh.specs.Codes.{checkedCode, lastPlace, judgedCode};
+ghost use Rattle.walumpeh.specs.Codes.{checkedCode, longCode, judgedCode, convertedCode};
+use btor2::Converted;
 use models::Fault;
 use models::Judged;
 use problem::Checked;
@@ -20,14 +19,20 @@ pub(crate) fn checked_code(answer: Checked) -> u64
     }
 }
 
-// An entry's position may have more than the 56 bits above the number: the last of them stands for it then.
-fn fault_code(why: Fault) -> u64
-    ensures { λ r. ⌜ r ≡ refusalCode (why .number) (min (why .place) lastPlace) ⌝ }
+// An entry's position, or a line, may have more than the 56 bits above the number: the last of them stands for it then.
+fn long_code(number: u8, place: u64) -> u64
+    ensures { λ r. ⌜ r ≡ longCode number place ⌝ }
 {
-    if why.place < 72057594037927935 {
-        return (why.number as u64) + 256 * why.place;
+    if place < 72057594037927935 {
+        return (number as u64) + 256 * place;
     }
-    (why.number as u64) + 256 * 72057594037927935
+    (number as u64) + 256 * 72057594037927935
+}
+
+fn fault_code(why: Fault) -> u64
+    ensures { λ r. ⌜ r ≡ longCode (why .number) (why .place) ⌝ }
+{
+    long_code(why.number, why.place)
 }
 
 pub(crate) fn judged_code(said: Judged) -> u64
@@ -37,5 +42,14 @@ pub(crate) fn judged_code(said: Judged) -> u64
         Judged::Yes => 0,
         Judged::No(_) => 0,
         Judged::Refused(why) => fault_code(why),
+    }
+}
+
+pub(crate) fn converted_code(answer: Converted) -> u64
+    ensures { λ r. ⌜ r ≡ convertedCode answer ⌝ }
+{
+    match answer {
+        Converted::Done(_) => 0,
+        Converted::Refused(number, line) => long_code(number, line as u64),
     }
 }

@@ -5,7 +5,7 @@ use mathlib.Core.List.{List, [], _∷_}
 use Prim.Native.Nat.{ℕ, suc, _+_, _-_, _*_, _/_, _^_, _≤_, _<_}
 use native.Mathlib.Omega.{arith}
 use native.Mathlib.Numerals.{add-one}
-use native.Mathlib.Nat.{mul-comm, le-div-iff-mul-le, div-lt-iff-lt-mul}
+use native.Mathlib.Nat.{mul-comm, mul-le-mul-right, le-div-iff-mul-le, div-lt-iff-lt-mul}
 use lib.Dec.{ltb, leb, eqb}
 use lib.ListN.{length, getD, drop, drop-of-length-le}
 use lib.Seq.{drop-cons}
@@ -154,3 +154,7 @@ fits-small base n d p q h = omega (arith, le-div-iff-mul-le p .0 h, mul-comm bas
 
 pub fits-huge : (base n d : ℕ) → 0 < base → d ≤ 16 → (2 ^ 64 - 1 - d) / base < n → 2 ^ 64 ≤ base * n + d
 fits-huge base n d p q h = omega (arith, div-lt-iff-lt-mul p .0 h, mul-comm base n)
+
+-- a number that leaves eight bits takes a digit of any base of a byte
+pub fits-low : (base n d : ℕ) → base ≤ 255 → d ≤ 16 → n < 2 ^ 56 → base * n + d < 2 ^ 64
+fits-low base n d p q h = omega (arith, mul-le-mul-right n p)

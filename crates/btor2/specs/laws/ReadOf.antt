@@ -1,0 +1,63 @@
+-- That a line read place by place is read as it says.
+use mathlib.Core.Path.{_≡_, refl, sym, ap, _∙_}
+use mathlib.Core.Bool.{Bool, true, false, cond}
+use mathlib.Core.List.{List}
+use Prim.Native.Nat.{ℕ, _+_, _^_, _≤_, _<_}
+use native.Mathlib.Omega.{arith}
+use lib.Dec.{ltb}
+use borrow.Author.Tests.{ltb-false}
+use Rattle.texts.specs.Numbers.{valueIn}
+use Rattle.btor2.specs.declared.table.Makes.{Makes}
+use Rattle.btor2.specs.declared.constants.Literal.{Literal}
+use Rattle.btor2.specs.declared.read.Operands.{Operands}
+use Rattle.btor2.specs.Lines.{Token, token}
+use Rattle.btor2.specs.Words.{numberOf, wordOf, shape}
+use Rattle.btor2.specs.Format.{refStart, sortNamed, itemOf, item}
+use Rattle.btor2.specs.Conversion.{State, at}
+use Rattle.btor2.specs.inner.Told.{idOf, small}
+use Rattle.btor2.specs.inner.Kept.{Sorted}
+use Rattle.btor2.specs.inner.Spelled.{short}
+use Rattle.btor2.specs.inner.Read.{Operated, Literally, Read}
+
+-- an id that 64 bits do not hold names no sort, as 0 does
+sort-small : {σ : State} {ls : List (List ℕ)} → Sorted σ ls → (id : ℕ) → at (small id) (σ .sorts) ≡ at id (σ .sorts)
+unfolding small
+sort-small {σ} S id = by (ltb id (2 ^ 64)) refl
+  where
+    by : (b : Bool) → ltb id (2 ^ 64) ≡ b → at (cond b id 0) (σ .sorts) ≡ at id (σ .sorts)
+    by true e = refl
+    by false e = S .none ∙ sym (S .wide id (ltb-false id (2 ^ 64) e))
+
+pub read-told :
+    {σ : State} {ls : List (List ℕ)} → Sorted σ ls
+    → (ts : List Token) (t₀ t₁ t₂ t₃ t₄ t₅ : Token) (k place refs numbers id s w f g : ℕ) (m : Makes) (o : Operands) (v : Literal)
+    → t₁ ≡ token ts 1
+    → k ≡ numberOf t₁
+    → m ≡ shape (wordOf k) .makes
+    → place ≡ refStart m
+    → refs ≡ shape (wordOf k) .refs
+    → numbers ≡ shape (wordOf k) .numbers
+    → t₂ ≡ token ts 2
+    → s ≡ small (sortNamed m t₂)
+    → w ≡ at s (σ .sorts)
+    → Operated σ ts place refs o
+    → t₃ ≡ token ts (place + refs)
+    → f ≡ short (valueIn 10 t₃)
+    → t₄ ≡ token ts (place + refs + 1)
+    → g ≡ short (valueIn 10 t₄)
+    → t₅ ≡ token ts (place + refs + numbers)
+    → Literally k w t₅ v
+    → t₀ ≡ token ts 0
+    → id ≡ small (valueIn 10 t₀)
+    → Read σ ts (record { word = k; id = id; width = w; ops = o; first = f; second = g; literal = v })
+unfolding item itemOf idOf
+read-told S ts t₀ t₁ t₂ t₃ t₄ t₅ k place refs numbers id s w f g m o v e₁ ek em ep er en e₂ es ew O e₃ ef e₄ eg e₅ L e₀ ei =
+    record {
+      word-is = ek ∙ rw e₁;
+      id-is = ei ∙ rw e₀;
+      width-is = ew ∙ rw es (sort-small S (sortNamed m t₂) ∙ rw (em, ek, e₁, e₂));
+      ops-are = rw (ep, er, em) at O;
+      first-is = ef ∙ rw (e₃, ep, er, em, ek, e₁);
+      second-is = eg ∙ rw (e₄, ep, er, em, ek, e₁);
+      literal-is = rw (e₅, ep, er, en, em) at L;
+    }

@@ -1,0 +1,201 @@
+// A line of the format as code reads it: its keyword, its id, the width of its sort, its operands, its numbers and its constant.
+ghost use mathlib.Core.Path.{_≡_};
+ghost use mathlib.Core.Bool.{Bool, cond};
+ghost use Prim.Native.Nat.{_+_, _≤_};
+ghost use lib.ListN.{length, take};
+ghost use Rattle.texts.specs.Numbers.{valueIn};
+ghost use Rattle.btor2.specs.Lines.{lines, tokens};
+ghost use Rattle.btor2.specs.Format.{refOf, sortNamed};
+ghost use Rattle.btor2.specs.Conversion.{State};
+ghost use Rattle.btor2.specs.inner.Told.{small};
+ghost use Rattle.btor2.specs.inner.Kept.{Rising, Seen, SortsKept};
+ghost use Rattle.btor2.specs.inner.Places.{Marked};
+ghost use Rattle.btor2.specs.inner.Spelled.{short};
+ghost use Rattle.btor2.specs.inner.Read.{operandIf, Operated, Read};
+use crate::constants::Literal;
+use crate::constants::literal_of;
+use crate::format::ref_start;
+use crate::lines::token_at;
+use crate::names::Operand;
+use crate::names::operand_of;
+use crate::names::sort_width;
+use crate::table::Makes;
+use crate::table::makes_of;
+use crate::table::number_of;
+use crate::table::numbers_of;
+use crate::table::refs_of;
+use crate::told::small_of;
+use texts::Number;
+use texts::value_in;
+
+// The operands of a line; one that it does not have is all 0.
+pub struct Operands {
+    pub a: Operand,
+    pub b: Operand,
+    pub c: Operand,
+}
+
+pub struct Line {
+    pub word: u8,
+    pub id: u64,
+    pub width: u8,
+    pub ops: Operands,
+    pub first: u8,
+    pub second: u8,
+    pub literal: Literal,
+}
+
+// A number as far as widths go: 128 for all from there on.
+fn short_of(t: &[u8]) -> u8
+    ensures { λ r. ⌜ r ≡ short (valueIn 10 (now (t .entry))) ⌝ }
+{
+    let Number::Small(n) = value_in(t, 10) else {
+        return 128;
+    };
+    if n < 128 {
+        return n as u8;
+    }
+    128
+}
+
+// The id of the sort that an input's and a value's line names; 0 on other lines, and for one that 64 bits do not hold.
+fn sort_named(makes: Makes, t: &[u8]) -> u64
+    ensures { λ r. ⌜ r ≡ small (sortNamed makes (now (t .entry))) ⌝ }
+{
+    match makes {
+        Makes::Sort => 0,
+        Makes::Input => small_of(t),
+        Makes::Value => small_of(t),
+        Makes::Root => 0,
+    }
+}
+
+fn operand_if(
+    wanted: bool,
+    text: &[u8],
+    passed: usize,
+    ids: &[u64],
+    places: &[u16],
+    names: u16,
+    bytes: &[u8],
+    t: &[u8],
+) -> Operand
+    requires { ⌜ Rising (now ids) names × (names ≤ length (now places)) ⌝ }
+    ensures { λ r. ⌜ ((σ : State) → Seen σ (take passed (lines (now (text .entry)))) names (now (bytes .entry)) (now (ids .entry)) (now (places .entry)) → r ≡ operandIf wanted σ (refOf (now (t .entry)))) ⌝ }
+{
+    if wanted {
+        return operand_of(text, passed, ids, places, names, bytes, t);
+    }
+    Operand {
+        negative: false,
+        node: 0,
+        width: 0,
+    }
+}
+
+// So many operands, whose references stand from a place on.
+fn operands_of(
+    text: &[u8],
+    passed: usize,
+    ids: &[u64],
+    places: &[u16],
+    names: u16,
+    bytes: &[u8],
+    line: &[u8],
+    marks: &[usize],
+    place: u8,
+    refs: u8,
+) -> Operands
+    requires { ⌜ Rising (now ids) names × (names ≤ length (now places)) × (place ≤ 3) × Marked (now line) 12 (now marks) ⌝ }
+    ensures { λ r. ⌜ ((σ : State) → Seen σ (take passed (lines (now (text .entry)))) names (now (bytes .entry)) (now (ids .entry)) (now (places .entry)) → Operated σ (tokens (now (line .entry))) place refs r) ⌝ }
+{
+    let a = operand_if(
+        0 < refs,
+        text,
+        passed,
+        ids,
+        places,
+        names,
+        bytes,
+        token_at(line, marks, place),
+    );
+    let b = operand_if(
+        1 < refs,
+        text,
+        passed,
+        ids,
+        places,
+        names,
+        bytes,
+        token_at(line, marks, place + 1),
+    );
+    let c = operand_if(
+        2 < refs,
+        text,
+        passed,
+        ids,
+        places,
+        names,
+        bytes,
+        token_at(line, marks, place + 2),
+    );
+    Operands { a, b, c }
+}
+
+pub(crate) fn read_line(
+    text: &[u8],
+    passed: usize,
+    ids: &[u64],
+    places: &[u16],
+    names: u16,
+    known: &[u64],
+    widths: &[u8],
+    sorts: u8,
+    bytes: &[u8],
+    line: &[u8],
+    marks: &[usize],
+) -> Line
+    requires { ⌜ Rising (now ids) names × (names ≤ length (now places)) × (sorts ≤ length (now known)) × (sorts ≤ length (now widths)) × Marked (now line) 12 (now marks) ⌝ }
+    ensures { λ r. ⌜ ((σ : State) → Seen σ (take passed (lines (now (text .entry)))) names (now (bytes .entry)) (now (ids .entry)) (now (places .entry)) → SortsKept σ sorts (now (known .entry)) (now (widths .entry)) → Read σ (tokens (now (line .entry))) r) ⌝ }
+{
+    let word = number_of(token_at(line, marks, 1));
+    let makes = makes_of(word);
+    let place = ref_start(makes);
+    let refs = refs_of(word);
+    let numbers = numbers_of(word);
+    let middle = place + refs;
+    let last = middle + numbers;
+    let width = sort_width(
+        text,
+        passed,
+        known,
+        widths,
+        sorts,
+        sort_named(makes, token_at(line, marks, 2)),
+    );
+    let ops = operands_of(
+        text,
+        passed,
+        ids,
+        places,
+        names,
+        bytes,
+        line,
+        marks,
+        place,
+        refs,
+    );
+    let first = short_of(token_at(line, marks, middle));
+    let second = short_of(token_at(line, marks, middle + 1));
+    let literal = literal_of(word, token_at(line, marks, last), width);
+    let id = small_of(token_at(line, marks, 0));
+    Line {
+        word,
+        id,
+        width,
+        ops,
+        first,
+        second,
+        literal,
+    }
+}
