@@ -61,6 +61,22 @@ static void fill_model(void) {
     text[text_len++] = ')';
 }
 
+/* A text of as many nodes and roots, with a name and a sort of its own for each: the most that wal_btor2 has to look up. */
+static char btor2_text[128 * NODES];
+static uint8_t converted[WAL_PROBLEM_MOST];
+static size_t btor2_len;
+
+static void fill_btor2(void) {
+    int id = 0, inputs = NODES - ROOTS;
+    for (int node = 0; node < inputs; node++) {
+        id += 3;
+        btor2_len += (size_t)sprintf(btor2_text + btor2_len, "%d sort bitvec 1\n%d input %d i%d\n%d uext %d %d 0\n", id, id + 1, id,
+                                     node, id + 2, id, id + 1);
+    }
+    for (int root = 0; root < ROOTS; root++)
+        btor2_len += (size_t)sprintf(btor2_text + btor2_len, "%d constraint -%d\n", id + 3 + root, 5 + 3 * root);
+}
+
 static void *nothing(void *none) { return none; }
 static void *check(void *none) {
     if (wal_check(problem, LENGTH) != WAL_ACCEPTED) abort();
@@ -97,6 +113,12 @@ static uint8_t mended[LENGTH];
 static uint16_t map[NODES];
 static void *mend(void *none) {
     if (wal_mend(problem, LENGTH, mended, LENGTH, map, NODES) != WAL_ACCEPTED || memcmp(problem, mended, LENGTH)) abort();
+    return none;
+}
+static void *btor2(void *none) {
+    if (wal_btor2((uint8_t *)btor2_text, btor2_len, converted, sizeof converted, out, WAL_BTOR2_OUT) != WAL_ACCEPTED ||
+        out[WAL_BTOR2_BYTES] != WAL_PROBLEM_MOST)
+        abort();
     return none;
 }
 /* The kinds with two operands of one width, and the node's width over operands of 64 bits; of 16 for udiv. */
@@ -149,11 +171,13 @@ int main(void) {
                  {"wal_need", need, WAL_STACK},
                  {"wal_model", model, WAL_MODEL_STACK},
                  {"wal_mend", mend, WAL_MEND_STACK},
+                 {"wal_btor2", btor2, WAL_BTOR2_STACK},
                  {"wal_pick", picks, WAL_STACK},
                  {"wal_essential", essential, WAL_STACK}};
     int status = 0;
     fill();
     fill_model();
+    fill_btor2();
     size_t before = used(nothing);
     for (size_t at = 0; at < sizeof calls / sizeof *calls; at++) {
         size_t taken = used(calls[at].call);

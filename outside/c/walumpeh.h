@@ -8,15 +8,16 @@
 
        number + 256 x place
 
-   with the numbers below; the place is a node's id, a root's or an entry's position, or 0. wal_number and
+   with the numbers below; the place is a node's id, a root's or an entry's position, a line, or 0. wal_number and
    wal_place take it apart. WAL_TOO_SHORT comes before all else where an array lent for the answer is too short:
    nothing is done then.
 
    Calls share nothing, keep nothing and allocate nothing: any number may run at once, on any threads.
-   A call takes at most WAL_STACK bytes of stack (wal_run the most, for the pairs of up to 1,024 nodes and the index of who reads each), but
-   for wal_model, which takes at most WAL_MODEL_STACK whatever the text (for the values of as many nodes, and
-   where the names of their variables stand), and wal_mend, which takes at most WAL_MEND_STACK (for the file as it
-   will be, and who reads which node). */
+   A call takes at most WAL_STACK bytes of stack (wal_run and those that call it the most, for the pairs of up to 1,024
+   nodes and the index of who reads each), but for wal_model, which takes at most WAL_MODEL_STACK whatever the text (for
+   the values of as many nodes, and where the names of their variables stand), wal_mend, which takes at most
+   WAL_MEND_STACK (for the file as it will be, and who reads which node), and wal_btor2, which takes at most
+   WAL_BTOR2_STACK, whatever the text. */
 #ifndef WALUMPEH_H
 #define WALUMPEH_H
 
@@ -27,7 +28,7 @@
 extern "C" {
 #endif
 
-enum { WAL_STACK = 27648, WAL_MODEL_STACK = 49152, WAL_MEND_STACK = 36864 };
+enum { WAL_STACK = 27648, WAL_MODEL_STACK = 49152, WAL_MEND_STACK = 36864, WAL_BTOR2_STACK = 38912 };
 
 /* What a node computes. Fields a, b, c of a node name its operands; extract's b is its lowest bit. */
 enum {
@@ -90,6 +91,15 @@ enum {
     WAL_TOO_SHORT = 255    /* an array lent for the answer is too short: nothing was done */
 };
 
+/* Refusals of a BTOR2 text by wal_btor2, which have numbers of their own; the place is the first line that fails, from 1. */
+enum {
+    WAL_BTOR2_FORMAT = 1,  /* not a line of the format */
+    WAL_BTOR2_KEYWORD = 2, /* a keyword outside the list */
+    WAL_BTOR2_ID = 3,      /* an id not increasing or not defined */
+    WAL_BTOR2_WIDTH = 4,   /* sorts or widths that do not fit, or a value too wide */
+    WAL_BTOR2_ROOM = 5     /* more than 1,024 nodes, 256 roots or the lent bytes needed so far; line 0 if under 9 */
+};
+
 /* Verdicts of a run; WAL_REFUSED stands beside a refusal. */
 enum {
     WAL_MODEL = 0,  /* every root is 1 */
@@ -137,6 +147,9 @@ enum { WAL_NEED_CHAIN = 0, WAL_NEED_WORDS = 1, WAL_NEED_OUT = 2 };
 
 /* Where wal_model puts what in out, and how many words it needs there. */
 enum { WAL_MODEL_YES = 0, WAL_MODEL_ROOT = 1, WAL_MODEL_OUT = 2 };
+
+/* Where wal_btor2 puts what in out, how many words it needs there, and how many bytes a problem has at most. */
+enum { WAL_BTOR2_BYTES = 0, WAL_BTOR2_OUT = 1, WAL_PROBLEM_MOST = 9 + 24 * 1024 + 2 * 256 };
 
 /* A refusal's number and place. */
 static inline unsigned wal_number(uint64_t refusal) { return (unsigned)(refusal & 255); }
@@ -202,6 +215,13 @@ uint64_t wal_model(const uint8_t *problem, size_t problem_len, const uint8_t *na
    Refused, nothing is written. */
 uint64_t wal_mend(const uint8_t *problem, size_t problem_len, uint8_t *mended, size_t mended_len, uint16_t *map,
                   size_t map_len);
+/* The combinational part of a BTOR2 text as a problem: refusals WAL_BTOR2_FORMAT to WAL_BTOR2_ROOM. The inputs are its
+   variables, in the order of their lines, all bits free; an assignment of them meets all constraints exactly if it makes all
+   roots 1. The bytes are written to the front of problem, and wal_check accepts them; what lies behind them is not touched,
+   and beside a refusal nothing is. out takes how many bytes there are, 0 beside a refusal. Words of out after the first are
+   not touched. WAL_PROBLEM_MOST bytes are room for every problem. */
+uint64_t wal_btor2(const uint8_t *text, size_t text_len, uint8_t *problem, size_t problem_len, uint64_t *out,
+                   size_t out_len);
 
 /* The pick from the inverse (which = 0) or consistent (else) set of an operand's position: 1 with the
    value in out[0], 0 where the set is empty, 2 where no accepted problem has such a node, position and

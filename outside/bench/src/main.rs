@@ -3,6 +3,7 @@
 mod above;
 mod batch;
 mod before;
+mod convert;
 mod growth;
 mod instructions;
 mod measure;
@@ -40,6 +41,9 @@ enum Line {
     /// Microseconds to put 1,024 nodes in order, beside plain Rust
     Mends(Rounds),
     /// Cost as the nodes, the budget and what is above a variable grow; a plot where asked for
+    /// BTOR2 converted, beside plain Rust with a hash map
+    Convert(Rounds),
+    /// Cost as the nodes and as the budget grow; a plot where asked for
     Growth {
         #[command(flatten)]
         rounds: Rounds,
@@ -101,6 +105,7 @@ fn measure(line: &Line) -> Result<(), String> {
         Line::Batch(Rounds { rounds }) => batch::table(*rounds),
         Line::Picks(Rounds { rounds }) => picks::table(*rounds),
         Line::Mends(Rounds { rounds }) => mends::table(*rounds),
+        Line::Convert(Rounds { rounds }) => convert::table(*rounds)?,
         Line::Growth { rounds, svg } => growth::table(rounds.rounds, svg.as_deref())?,
         Line::Models(Rounds { rounds }) => models::table(*rounds)?,
         Line::Instructions { above: true } => instructions::table_above()?,

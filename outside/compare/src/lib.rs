@@ -14,12 +14,14 @@
 //! | `gatherings` | solutions that differ on named variables: kept, repeats and unkept          |
 //! | `models`  | what is said of get-model answers, with every refusal and every order of two  |
 //! | `mends`   | files in any order and what they are mended to, with every refusal            |
+//! | `btor2`   | what BTOR2 texts are converted to, every refusal, and constraints against roots |
 //! | `program` | what the program `tvrun` prints, whole                                        |
 //! | `parts`   | work in parts, on all of the machine's processors                             |
 //!
 //! A difference is an `Err` with a text that shows it.
 
 pub mod batches;
+pub mod btor2;
 pub mod fixed;
 pub mod gatherings;
 pub mod mends;
@@ -34,4 +36,4 @@ pub mod runs;
 pub mod subject;
 pub mod wide;
 
-pub use subject::{Batches, Gather, Judge, Library, Mender, Plain, Subject};
+pub use subject::{Batches, Converts, Gather, Judge, Library, Mender, Plain, Subject};

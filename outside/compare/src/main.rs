@@ -3,7 +3,7 @@
 use clap::{Parser, ValueEnum};
 use compare::narrow::{self, Extent};
 use compare::runs::{self, Counts, Difference};
-use compare::{batches, fixed, gatherings, mends, models, need, program, refused, wide, Batches, Library, Mender, Plain, Subject};
+use compare::{batches, btor2, fixed, gatherings, mends, models, need, program, refused, wide, Batches, Converts, Library, Mender, Plain, Subject};
 use model::{Kind, Verdict};
 use std::path::{Path, PathBuf};
 use std::process::ExitCode;
@@ -89,6 +89,14 @@ enum What {
         #[arg(long, value_name = "FOLDER", default_value = "differences")]
         out: PathBuf,
     },
+    /// What BTOR2 texts are converted to: valid ones up to all limits, and as many damaged ones; and constraints against roots
+    Btor2 {
+        #[arg(long, default_value_t = 100_000)]
+        cases: u64,
+        /// Where the text of a difference is written to
+        #[arg(long, value_name = "FOLDER", default_value = "differences")]
+        out: PathBuf,
+    },
     /// The whole output of a program that does as tvrun does, run in a folder of its own
     Program {
         program: PathBuf,
@@ -118,7 +126,7 @@ fn main() -> ExitCode {
     }
 }
 
-fn compare(subject: &(impl Subject + Batches + Mender), line: &Line) -> Result<(), String> {
+fn compare(subject: &(impl Subject + Batches + Mender + Converts), line: &Line) -> Result<(), String> {
     match &line.what {
         What::Picks { spots, cases } => picks(subject, line.seed, *spots, *cases),
         What::Runs { cases, out } => whole_runs(subject, line.seed, *cases, out),
@@ -128,6 +136,7 @@ fn compare(subject: &(impl Subject + Batches + Mender), line: &Line) -> Result<(
         What::Need => whole_tapes(subject, line.seed),
         What::Models { cases, out } => answers(line, *cases, out),
         What::Mends { cases, out } => mended(subject, line.seed, *cases, out),
+        What::Btor2 { cases, out } => conversions(subject, line.seed, *cases, out),
         What::Program { program, cases } => whole_outputs(program, line.seed, *cases),
     }
 }
@@ -326,6 +335,34 @@ fn mended(subject: &impl Mender, seed: u64, cases: u64, out: &Path) -> Result<()
     );
     println!("nodes whose values solve the file as it stood: {}", counts.nodes);
     println!("mends: {cases} files, no difference, {}", seconds(start));
+    match counts.missing().as_slice() {
+        [] => Ok(()),
+        missing => Err(format!("never reached: {}", missing.join(", "))),
+    }
+}
+
+fn conversions(subject: &impl Converts, seed: u64, cases: u64, out: &Path) -> Result<(), String> {
+    let start = Instant::now();
+    let counts = btor2::compare(subject, seed, cases).map_err(|difference| {
+        let written = written(btor2::write_files(&difference.case, out), out);
+        format!("difference at {} of seed {seed}: {}; {written}", difference.name, difference.what)
+    })?;
+    println!("converted {:>8}", counts.converted);
+    for (number, count) in counts.refusals.iter().enumerate().skip(1) {
+        println!("refusal {number} {count:>8}");
+    }
+    let extents: Vec<String> = counts.extents().map(|(extent, count)| format!("{extent} {count}")).collect();
+    println!("limits: {}", extents.join(", "));
+    let used: Vec<String> =
+        counts.keywords.iter().map(|(keyword, count)| format!("{keyword} {count}")).collect();
+    println!("lines converted: {}", used.join(", "));
+    println!("negative references {}, other names of a node {}", counts.negative, counts.names);
+    println!("every order of two refusals on one line, the earlier told, {} times or more", counts.rarest());
+    println!(
+        "values of the inputs: {} meet all constraints, {} do not, and so do the roots",
+        counts.met, counts.unmet
+    );
+    println!("btor2: {cases} valid and {cases} damaged texts, no difference, {}", seconds(start));
     match counts.missing().as_slice() {
         [] => Ok(()),
         missing => Err(format!("never reached: {}", missing.join(", "))),

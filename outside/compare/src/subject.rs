@@ -49,6 +49,12 @@ pub trait Mender: Sync {
     fn mend(&self, problem: &[u8], mended: &mut [u8], map: &mut [u16]) -> u64;
 }
 
+/// BTOR2 in.
+pub trait Converts: Sync {
+    /// 0, or a refusal's number + 256 × its line; `problem` takes the bytes, and `out` how many they are.
+    fn btor2(&self, text: &[u8], problem: &mut [u8], out: &mut [u64]) -> u64;
+}
+
 /// A node, a position and a target, as the calls take them.
 #[derive(Clone, Copy, Debug)]
 pub struct Asked {
@@ -132,6 +138,12 @@ impl Mender for Library {
     }
 }
 
+impl Converts for Library {
+    fn btor2(&self, text: &[u8], problem: &mut [u8], out: &mut [u64]) -> u64 {
+        walumpeh::raw::btor2(text, problem, out)
+    }
+}
+
 /// The model itself: what every subject is to answer at any width.
 pub struct Model;
 
@@ -189,6 +201,12 @@ impl Mender for Model {
     }
 }
 
+impl Converts for Model {
+    fn btor2(&self, text: &[u8], problem: &mut [u8], out: &mut [u64]) -> u64 {
+        model::calls::btor2(text, problem, out)
+    }
+}
+
 /// The search in plain Rust.
 pub struct Plain;
 
@@ -223,5 +241,11 @@ impl Batches for Plain {
 impl Mender for Plain {
     fn mend(&self, problem: &[u8], mended: &mut [u8], map: &mut [u16]) -> u64 {
         plain::calls::mend(problem, mended, map)
+    }
+}
+
+impl Converts for Plain {
+    fn btor2(&self, text: &[u8], problem: &mut [u8], out: &mut [u64]) -> u64 {
+        plain::calls::btor2(text, problem, out)
     }
 }

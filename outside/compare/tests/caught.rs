@@ -3,7 +3,8 @@
 
 use compare::narrow::{self, Extent};
 use compare::subject::{Asked, Model};
-use compare::{batches, fixed, gatherings, mends, models, need, runs, wide, Batches, Gather, Judge, Mender, Subject};
+use compare::{batches, btor2, fixed, gatherings, mends, models, need, runs, wide};
+use compare::{Batches, Converts, Gather, Judge, Mender, Subject};
 use model::batch::{Lent, MOST_STARTS};
 use model::calls::{ANSWER, MODEL_OUT};
 use model::problem::{HEADER, NODE};
@@ -340,6 +341,117 @@ impl Mender for WrongMender {
     }
 }
 
+/// The model's converter with one thing changed: in the text that it is handed, or in its answer.
+#[derive(Clone, Copy, Debug, PartialEq)]
+enum WrongConverter {
+    AddsTheNegatedOther,
+    LeavesOutTheLastNotOfOr,
+    IgnoresNegativeReferences,
+    ComparesIdsByTheirLow32Bits,
+    WritesARootTwice,
+    CountsLinesFromZero,
+    WritesBeforeItRefuses,
+    NeedsAByteMore,
+    TellsIdsBeforeTheFormat,
+    EndsTokensAtSemicolons,
+    ForgetsWidths,
+    TakesAliasesForNodes,
+}
+
+use WrongConverter::*;
+
+impl WrongConverter {
+    /// The words of a line, as this one reads them.
+    fn read(self, words: &mut [String]) {
+        let keyword = words.get(1).cloned().unwrap_or_default();
+        let is_constant = keyword.starts_with("const") && keyword != "constraint";
+        match (self, keyword.as_str()) {
+            // The sum of a and not b is one too few.
+            (AddsTheNegatedOther, "sub") if words.len() > 4 => {
+                words[1] = "add".into();
+                words[4].insert(0, '-');
+            }
+            (LeavesOutTheLastNotOfOr, "or") if words.len() > 4 => {
+                words[1] = "and".into();
+                words[3..5].iter_mut().for_each(|word| word.insert(0, '-'));
+            }
+            (IgnoresNegativeReferences, _) if !is_constant => {
+                words.iter_mut().for_each(|word| *word = word.trim_start_matches('-').into());
+            }
+            (ComparesIdsByTheirLow32Bits, _) if !is_constant => {
+                for word in words.iter_mut() {
+                    if let Ok(id) = word.parse::<u64>() {
+                        *word = (id as u32).to_string();
+                    }
+                }
+            }
+            (TakesAliasesForNodes, "uext" | "sext") if words.get(4).is_some_and(|n| n == "0") => {
+                words[1] = "not".into();
+                words[3].insert(0, '-');
+                words[4] = "alias".into();
+            }
+            (EndsTokensAtSemicolons, _) => {
+                for word in words.iter_mut() {
+                    *word = word.replace(';', " ;");
+                }
+            }
+            _ => {}
+        }
+    }
+
+    /// The text as this one reads it; as it is, where it is not UTF-8.
+    fn text(self, text: &[u8]) -> Vec<u8> {
+        let Ok(text) = std::str::from_utf8(text) else {
+            return text.to_vec();
+        };
+        let lines = text.split('\n').map(|line| {
+            let mut words: Vec<String> = line.split([' ', '\t', '\r']).map(String::from).collect();
+            words.retain(|word| !word.is_empty());
+            self.read(&mut words);
+            words.join(" ")
+        });
+        lines.collect::<Vec<_>>().join("\n").into_bytes()
+    }
+}
+
+impl Converts for WrongConverter {
+    fn btor2(&self, text: &[u8], problem: &mut [u8], out: &mut [u64]) -> u64 {
+        let before = problem.to_vec();
+        let refusal = Model.btor2(&self.text(text), problem, out);
+        if refusal == 255 {
+            return refusal;
+        }
+        match (self, refusal & 255) {
+            (CountsLinesFromZero, 1..) if refusal > 255 => return refusal - 256,
+            (TellsIdsBeforeTheFormat, 1) => return refusal + 2,
+            (ForgetsWidths, 4) => {
+                out[0] = 9;
+                return 0;
+            }
+            (WritesBeforeItRefuses, 1..) if !problem.is_empty() => problem[0] = b'T',
+            (NeedsAByteMore, 0) if out[0] as usize == before.len() => {
+                problem.copy_from_slice(&before);
+                out[0] = 0;
+                return 5 + 256;
+            }
+            (WritesARootTwice, 0) => write_a_root_twice(problem, &mut out[0]),
+            _ => {}
+        }
+        refusal
+    }
+}
+
+/// The first root again behind the last, where there is one, and room.
+fn write_a_root_twice(problem: &mut [u8], length: &mut u64) {
+    let nodes = usize::from(u16::from_le_bytes([problem[5], problem[6]]));
+    let (roots, end) = (HEADER + NODE * nodes, *length as usize);
+    if end > roots && end + 2 <= problem.len() {
+        problem.copy_within(roots..roots + 2, end);
+        problem[7] = problem[7].wrapping_add(1);
+        *length += 2;
+    }
+}
+
 #[test]
 fn wrong_menders_are_caught() {
     for wrong in [
@@ -352,6 +464,26 @@ fn wrong_menders_are_caught() {
         LeavesRootsAsTheyWere,
     ] {
         assert!(mends::compare(&wrong, 1, 2000).is_err(), "{wrong:?} passed");
+    }
+}
+
+#[test]
+fn wrong_converters_are_caught() {
+    for wrong in [
+        AddsTheNegatedOther,
+        LeavesOutTheLastNotOfOr,
+        IgnoresNegativeReferences,
+        ComparesIdsByTheirLow32Bits,
+        WritesARootTwice,
+        CountsLinesFromZero,
+        WritesBeforeItRefuses,
+        NeedsAByteMore,
+        TellsIdsBeforeTheFormat,
+        EndsTokensAtSemicolons,
+        ForgetsWidths,
+        TakesAliasesForNodes,
+    ] {
+        assert!(btor2::compare(&wrong, 1, 2000).is_err(), "{wrong:?} passed");
     }
 }
 

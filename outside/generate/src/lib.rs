@@ -13,12 +13,14 @@
 //! | `gatherings` | the same with names and places to keep solutions in                  |
 //! | `answers`  | get-model answers of all sorts, with the names of their variables       |
 //! | `shuffled` | problem files whose nodes stand in any order, with the mender's faults    |
+//! | `btor2`    | BTOR2 texts, valid up to the limits and damaged, with values that meet their constraints |
 //! | `spots`    | single nodes for picking: operators, pairs, values, targets            |
 //! | `tape`     | the words of a run as it asks for them, some share for the inverse     |
 //! | `families` | the benchmark's families, each with a known solution                   |
 
 pub mod answers;
 pub mod batches;
+pub mod btor2;
 pub mod builder;
 pub mod case;
 pub mod damage;

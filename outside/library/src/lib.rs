@@ -1,6 +1,6 @@
 //! The proved library in safe Rust: the problem check, the run and how long a tape it takes, many runs of one
 //! problem at once, solutions gathered from them, our word for another solver's model, shuffled problems put in
-//! order, and the picks of a single node.
+//! order, BTOR2 converted to a problem, and the picks of a single node.
 //!
 //! Every call takes whole slices and answers for every input; nothing has to hold beforehand. Calls
 //! share nothing and may run on several threads. The calls behind them, with the library's own numbers,
@@ -9,7 +9,7 @@
 pub mod raw;
 mod refusal;
 
-pub use refusal::{Place, Refusal};
+pub use refusal::{LineRefusal, Place, Refusal};
 
 #[derive(Clone, Copy, Debug, PartialEq, Eq)]
 pub enum Verdict {
@@ -189,6 +189,18 @@ pub fn model(problem: &[u8], names: &[u8], text: &[u8]) -> Result<Judged, Refusa
 /// with the old id of each new one; what lies beyond is not touched, and after a refusal nothing is.
 pub fn mend(problem: &[u8], mended: &mut [u8], map: &mut [u16]) -> Result<(), Refusal> {
     Refusal::of(raw::mend(problem, mended, map))
+}
+
+/// The most bytes that a problem has: 1,024 nodes and 256 roots.
+pub const LONGEST_PROBLEM: usize = 9 + 24 * 1024 + 2 * 256;
+
+/// Writes the problem that a BTOR2 text is to the front of `problem`, and tells how many bytes it has. Its inputs are the
+/// variables, in the order of their lines; an assignment meets all constraints exactly if it makes all roots 1. With
+/// `LONGEST_PROBLEM` lent, no refusal is for want of bytes. Refused, nothing is changed.
+pub fn btor2(text: &[u8], problem: &mut [u8]) -> Result<usize, LineRefusal> {
+    let mut out = [0; raw::BTOR2_OUT];
+    LineRefusal::of(raw::btor2(text, problem, &mut out))?;
+    Ok(out[0] as usize)
 }
 
 /// The set that a value is picked from.

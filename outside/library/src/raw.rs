@@ -79,6 +79,14 @@ mod calls {
             map: *mut u16,
             map_len: usize,
         ) -> u64;
+        pub fn wal_btor2(
+            text: *const u8,
+            text_len: usize,
+            problem: *mut u8,
+            problem_len: usize,
+            out: *mut u64,
+            out_len: usize,
+        ) -> u64;
         pub fn wal_pick(
             kind: u8,
             width: u32,
@@ -121,6 +129,9 @@ pub const NEED_OUT: usize = 2;
 
 /// How many words `model` needs for its answer: 1 for yes and 0 otherwise, and the first root that is 0.
 pub const MODEL_OUT: usize = 2;
+
+/// How many words `btor2` needs for its answer: how many bytes were written.
+pub const BTOR2_OUT: usize = 1;
 
 /// The refusal of a call that is lent too few words for its answer.
 pub const TOO_SHORT: u64 = 255;
@@ -256,6 +267,22 @@ pub fn mend(problem: &[u8], mended: &mut [u8], map: &mut [u16]) -> u64 {
             mended.len(),
             map.as_mut_ptr(),
             map.len(),
+        )
+    }
+}
+
+/// 0, or the refusal's number + 256 × its line; `problem` takes the bytes that the text is converted to, and `out` how many
+/// they are, or 0.
+pub fn btor2(text: &[u8], problem: &mut [u8], out: &mut [u64]) -> u64 {
+    // SAFETY: as above.
+    unsafe {
+        calls::wal_btor2(
+            text.as_ptr(),
+            text.len(),
+            problem.as_mut_ptr(),
+            problem.len(),
+            out.as_mut_ptr(),
+            out.len(),
         )
     }
 }

@@ -1,4 +1,4 @@
-//! Refusals: number, place and meaning.
+//! Refusals: number, place and meaning; those of a BTOR2 text have numbers of their own.
 
 use std::fmt::{Display, Formatter};
 
@@ -95,3 +95,38 @@ impl Display for Refusal {
 }
 
 impl std::error::Error for Refusal {}
+
+/// A BTOR2 text's refusal: its number, and the line that fails, from 1; 0 where fewer than 9 bytes are lent.
+#[derive(Clone, Copy, Debug, PartialEq, Eq)]
+pub struct LineRefusal {
+    pub number: u8,
+    pub line: u64,
+}
+
+impl LineRefusal {
+    /// The refusal that the call answers as number + 256 × line; 0 is none.
+    pub(crate) fn of(answer: u64) -> Result<(), LineRefusal> {
+        Refusal::of(answer).map_err(|Refusal { number, place }| LineRefusal { number, line: place })
+    }
+
+    /// What the number means, in words.
+    pub fn meaning(self) -> &'static str {
+        match self.number {
+            1 => "not a line of the format",
+            2 => "a keyword outside the list",
+            3 => "an id not increasing or not defined",
+            4 => "sorts or widths that do not fit, or a value too wide",
+            5 => "more than 1,024 nodes, 256 roots or the lent bytes are needed",
+            _ => "no such refusal",
+        }
+    }
+}
+
+/// `refused NUMBER at line LINE`, and the meaning.
+impl Display for LineRefusal {
+    fn fmt(&self, f: &mut Formatter) -> std::fmt::Result {
+        write!(f, "refused {} at line {}: {}", self.number, self.line, self.meaning())
+    }
+}
+
+impl std::error::Error for LineRefusal {}

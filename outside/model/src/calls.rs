@@ -2,6 +2,7 @@
 //! must answer.
 
 use crate::batch::{batch as model_batch, Lent};
+use crate::btor2::convert;
 use crate::frames::{gather as model_gather, Gathered};
 use crate::judged::{judge, Judged};
 use crate::mended;
@@ -25,6 +26,9 @@ pub const NEED_OUT: usize = 2;
 
 /// How many words the answer of `model` takes: 1 for yes and 0 otherwise, and the first root that is 0.
 pub const MODEL_OUT: usize = 2;
+
+/// How many words the answer of `btor2` takes: how many bytes were written.
+pub const BTOR2_OUT: usize = 1;
 
 /// The refusal of a call that is lent too few words for its answer.
 pub const TOO_SHORT: u64 = 255;
@@ -80,6 +84,26 @@ pub fn mend(problem: &[u8], file: &mut [u8], map: &mut [u16]) -> u64 {
             0
         }
         Err(refusal) => code(refusal),
+    }
+}
+
+/// The problem that a BTOR2 text is: 0 with its bytes in `problem` and how many they are in `out`; or the refusal's number
+/// + 256 × its line with 0, and `problem` as it was. Nothing is done where `out` is too short.
+pub fn btor2(text: &[u8], problem: &mut [u8], out: &mut [u64]) -> u64 {
+    let Some(out) = out.first_chunk_mut::<BTOR2_OUT>() else {
+        return TOO_SHORT;
+    };
+    match convert(text, problem.len()) {
+        Ok(converted) => {
+            let bytes = converted.bytes();
+            problem[..bytes.len()].copy_from_slice(&bytes);
+            *out = [bytes.len() as u64];
+            0
+        }
+        Err(fault) => {
+            *out = [0];
+            code(Refusal { number: fault.number, place: fault.line })
+        }
     }
 }
 

@@ -15,10 +15,12 @@
 //! | `recipe`     | demand 3: the tape that leads from a start to a known solution            |
 //! | `judged`     | another solver's model: its text, refusals 30 to 36, the first root that is 0 |
 //! | `mended`     | the mender: the order, refusals 21, 22 and 25, and what it writes          |
+//! | `btor2`      | BTOR2 in: a text's lines, refusals 1 to 5, the nodes they make, what they mean |
 //! | `files`      | the three files of `tvrun`: what they hold and what is printed            |
 //! | `calls`      | the proved library's calls, in its numbers                                |
 
 pub mod batch;
+pub mod btor2;
 pub mod calls;
 pub mod definition;
 pub mod exact;

@@ -1,6 +1,7 @@
 //! The calls in the library's own numbers and with its own tests of the arguments, so that the
 //! two are measured at the same work. Never inlined, as the library's are not.
 
+use crate::btor2::convert;
 use crate::kind::{COUNT, EXTRACT};
 use crate::layout::{check as check_problem, height, operands, widest, Refusal};
 use crate::mask;
@@ -91,6 +92,21 @@ pub fn need(problem: &[u8], budget: u16, out: &mut [u64]) -> u64 {
 #[inline(never)]
 pub fn mend(problem: &[u8], mended: &mut [u8], map: &mut [u16]) -> u64 {
     mend_problem(problem, mended, map).map_or_else(code, |()| 0)
+}
+
+/// 0 with the problem that a BTOR2 text is in `problem` and its length in `out`, or the refusal's number + 256 × its line
+/// with 0.
+#[inline(never)]
+pub fn btor2(text: &[u8], problem: &mut [u8], out: &mut [u64]) -> u64 {
+    let Some(out) = out.first_mut() else {
+        return 255;
+    };
+    let (refusal, length) = match convert(text, problem) {
+        Ok(length) => (0, length),
+        Err(refusal) => (code(refusal), 0),
+    };
+    *out = length as u64;
+    refusal
 }
 
 /// 1 with the value in `out`, 0 where the set (0 inverse, else consistent) is empty, 2 where the

@@ -1,6 +1,6 @@
 //! The same search in plain Rust at full optimization, without proofs: the measure of the proved
 //! library's speed. It works on the problem's bytes as they are lent, keeps derived pairs in two
-//! arrays of 1,024 words, and allocates nothing.
+//! arrays of 1,024 words, and allocates nothing, but for the ids of BTOR2 in a hash map.
 //!
 //! | module    | what it holds                                             |
 //! |-----------|-----------------------------------------------------------|
@@ -11,8 +11,10 @@
 //! | `readers` | who reads each node, and evaluation above a variable      |
 //! | `search`  | the run, and many starts of one problem                   |
 //! | `mending` | a shuffled problem put in order                           |
+//! | `btor2`   | BTOR2 converted to problem bytes                          |
 //! | `calls`   | the library's calls, in its numbers                       |
 
+pub mod btor2;
 pub mod calls;
 pub mod layout;
 pub mod member;

@@ -149,6 +149,22 @@ pub unsafe extern "C" fn wal_mend(
 }
 
 /// # Safety
+/// Each pointer and length are those of a slice; `problem` and `out` overlap no other.
+#[no_mangle]
+pub unsafe extern "C" fn wal_btor2(
+    text: *const u8,
+    text_len: usize,
+    problem: *mut u8,
+    problem_len: usize,
+    out: *mut u64,
+    out_len: usize,
+) -> u64 {
+    let text = from_raw_parts(text, text_len);
+    let problem = from_raw_parts_mut(problem, problem_len);
+    calls::btor2(text, problem, from_raw_parts_mut(out, out_len))
+}
+
+/// # Safety
 /// Each pointer and length are those of a slice.
 #[no_mangle]
 pub unsafe extern "C" fn wal_pick(

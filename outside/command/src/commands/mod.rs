@@ -3,6 +3,7 @@
 mod batch;
 mod build;
 mod check;
+mod convert;
 mod example;
 mod export;
 mod gather;
@@ -20,6 +21,7 @@ use std::process::ExitCode;
 #[derive(Subcommand)]
 pub enum Command {
     Build(build::Args),
+    Convert(convert::Args),
     Show(show::Args),
     Check(check::Args),
     Mend(mend::Args),
@@ -45,6 +47,7 @@ impl Command {
     pub fn run(self) -> Result<ExitCode, Fault> {
         match self {
             Command::Build(args) => build::run(&args),
+            Command::Convert(args) => convert::run(&args),
             Command::Show(args) => show::run(&args),
             Command::Check(args) => check::run(&args),
             Command::Mend(args) => mend::run(&args),

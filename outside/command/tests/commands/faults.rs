@@ -8,9 +8,16 @@ use std::os::unix::ffi::OsStrExt;
 fn missing_files_are_named() {
     let at = At::example("missing");
     let missing = "No such file or directory (os error 2)";
-    for line in
-        ["show none", "check none", "need none", "tape none", "export none", "run none", "build none new.tbv"]
-    {
+    for line in [
+        "show none",
+        "check none",
+        "need none",
+        "tape none",
+        "export none",
+        "run none",
+        "build none new.tbv",
+        "convert none new.tbv",
+    ] {
         at.fails(line, &format!("none: {missing}"));
     }
     at.fails("run problem.tbv none", &format!("none: {missing}"));

@@ -2,8 +2,9 @@
 
 use crate::at::At;
 
-const COMMANDS: [&str; 12] =
-    ["build", "show", "check", "mend", "need", "tape", "run", "batch", "gather", "export", "model", "example"];
+const COMMANDS: [&str; 13] = [
+    "build", "convert", "show", "check", "mend", "need", "tape", "run", "batch", "gather", "export", "model", "example",
+];
 
 #[test]
 fn help_names_every_command() {
@@ -29,6 +30,7 @@ fn every_command_has_help() {
     for (command, words) in [
         ("build", ["--rootless", "root ok"]),
         ("mend", ["--map <FILE>", "byte for byte"]),
+        ("convert", ["--names <FILE>", "IN:LINE: refused NUMBER"]),
         ("need", ["--budget <BUDGET>", "longest chain H"]),
         ("tape", ["--starts <K>", "[default: 95]"]),
         ("gather", ["--name <X>", "kept K repeats R unkept U"]),

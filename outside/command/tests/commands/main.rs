@@ -4,6 +4,7 @@
 mod answers;
 mod at;
 mod batches;
+mod convert;
 mod faults;
 mod gatherings;
 mod help;
