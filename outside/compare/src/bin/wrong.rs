@@ -103,7 +103,9 @@ fn code_of(object: &[u8]) -> Option<Vec<Range<usize>>> {
     for section in (0..count).map(|i| sections + i * entry) {
         let name = object.get(strings + number(section, 4)?..)?.split(|&byte| byte == 0).next()?;
         let name = String::from_utf8_lossy(name);
-        if name.starts_with(".text") && (name.contains("evaluate") || name.contains("meaning")) {
+        if name.starts_with(".text")
+            && ["evaluation::pass", "evaluate", "meaning"].iter().any(|part| name.contains(part))
+        {
             let start = number(section + 0x18, 8)?;
             found.push(start..start + number(section + 0x20, 8)?);
         }
