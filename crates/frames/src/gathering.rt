@@ -1,7 +1,7 @@
 // The gathering, after the starts were made: each model in turn is kept, or is a repeat, or is left out.
 ghost use mathlib.Core.Path.{_≡_};
-ghost use Prim.Native.Nat.{_≤_};
-ghost use lib.ListN.{length};
+ghost use Prim.Native.Nat.{_≤_, _<_};
+ghost use lib.ListN.{length, getD};
 ghost use Rattle.words.specs.inner.Decides.{Decides};
 ghost use Rattle.frames.specs.Bench.{Alike};
 ghost use Rattle.frames.specs.inner.Bench.{NamesBelow, Compared, AgreesIn, Taking, Taken, StartThere, StartTaken, Gatherable, Tallied};
@@ -14,6 +14,14 @@ pub(crate) struct Tally {
     pub unkept: u64,
 }
 
+// The variable named i-th.
+fn named(names: &[u16], i: usize) -> u16
+    requires { ⌜ i < length (now names) ⌝ }
+    ensures { λ r. ⌜ r ≡ getD (now (names .entry)) i 0 ⌝ }
+{
+    names[i]
+}
+
 // Whether two solutions agree on all named variables.
 fn alike(names: &[u16], one: &[u64], other: &[u64]) -> bool
     requires { ⌜ NamesBelow (now names) (length (now one)) × (length (now one) ≡ length (now other)) ⌝ }
@@ -21,7 +29,7 @@ fn alike(names: &[u16], one: &[u64], other: &[u64]) -> bool
 {
     let mut i: usize = 0;
     while i < names.len() {
-        let id = names[i] as usize;
+        let id = named(names, i) as usize;
         if one[id] != other[id] {
             return false;
         }
