@@ -1,13 +1,14 @@
 -- What the code of one step takes from the definitions: the candidates as bits, the candidate followed, the pick.
 use mathlib.Core.Path.{_≡_, refl, sym, ap, _∙_, subst}
 use mathlib.Core.Logic.{_⊎_, inl, inr, ⊎-elim}
-use mathlib.Core.Bool.{Bool, true, false, not}
+use mathlib.Core.Bool.{Bool, true, false, not, _&&_, _||_}
 use mathlib.Core.List.{List, [], _∷_}
 use Prim.Native.Nat.{ℕ, zero, suc, _+_, _-_, _*_, _/_, _%_, _^_, _≤_, _<_}
 use native.Mathlib.Omega.{arith}
 use native.Mathlib.Nat.{mod-lt, lt-of-lt-of-le}
+use native.Mathlib.Decide.{ℕ-discrete}
 use lib.Bits.{bitAnd}
-use lib.Dec.{eqb, eqb→eq}
+use lib.Dec.{T, eqb, ltb, eqb→eq, ltb→lt}
 use lib.ListN.{length, getD}
 use lib.Pow.{pow-mono}
 use Rattle.words.specs.declared.found.Found.{Found}
@@ -16,17 +17,20 @@ use Rattle.words.specs.Bits.{bit}
 use Rattle.words.specs.laws.Bits.{bit-high}
 use Rattle.words.specs.laws.Cases.{every, every-at}
 use Rattle.words.specs.inner.Decides.{Decides}
-use Rattle.words.specs.laws.Decides.{decides-not, decides-eq}
+use Rattle.words.specs.laws.Decides.{decides-unique, decides-not, decides-eq}
+use Rattle.words.specs.Agree.{Agrees}
+use Rattle.words.specs.laws.Agree.{agrees-only}
 use Rattle.words.specs.Pick.{Picked, Empty}
 use Rattle.picking.specs.declared.spot.Spot.{Spot}
 use Rattle.picking.specs.declared.spot.Three.{Three}
-use Rattle.picking.specs.Spot.{at, positions, Inverse, Consistent, Essential, NoneEssential, Candidate}
-use Rattle.picking.specs.laws.Positions.{few-positions}
+use Rattle.picking.specs.Spot.{at, put, positions, Other, value, Inverse, Consistent, Essential, NoneEssential, Candidate, Fair}
+use Rattle.picking.specs.laws.Positions.{few-positions, at-put-same, at-put-other, put-same, value-used}
 use Rattle.picking.specs.inner.Marks.{marked, Marks, mark}
 use Rattle.picking.specs.laws.Marks.{marks-three, marks-none, marks-some, marks-same, marks-both, marks-fewer}
 use Rattle.evaluation.specs.Lists.{Lists, Lists.done, Lists.keep, Lists.skip}
 use Rattle.search.specs.Step.{Out, blocked, Follows, Follows.consistent, Follows.nothing, Step, Step.none-left, Step.followed}
 use Rattle.evaluation.specs.laws.Decide.{lists-member}
+use Rattle.search.specs.laws.Candidates.{dec-essential}
 use Rattle.search.specs.inner.Run.{outOf, grown, members, listed, Open, FixedPast}
 
 -- ---- the marked positions
@@ -72,6 +76,24 @@ place-is m k h l =
     (every-at (length (members 3 m)) (λ y. eqb (placed m y) (getD (members 3 m) y 0))
     (every-at 8 (λ x. every (length (members 3 x)) (λ y. eqb (placed x y) (getD (members 3 x) y 0))) tt m h) k l)
 
+-- where at most one is marked, any two that are marked are the same
+abbrev alone : ℕ → ℕ → ℕ → Bool
+alone m i j = ltb 1 (length (members 3 m)) || (not (marked m i && marked m j) || eqb i j)
+
+or-right : (a b : Bool) → (T a → ⊥) → T (a || b) → T b
+or-right true b f t = absurd (f tt)
+or-right false b f t = t
+
+sole-marked : (m i j : ℕ) → m < 8 → i < 3 → j < 3 → length (listed m) ≤ 1 → marked m i ≡ true → marked m j ≡ true → i ≡ j
+unfolding bit listed
+sole-marked m i j h k l few a b =
+    let t = every-at 3 (alone m i) (every-at 3 (λ x. every 3 (alone m x)) (every-at 8 (λ z. every 3 (λ x. every 3 (alone z x))) tt m h) i k) j l in
+    let u = or-right (ltb 1 (length (members 3 m))) (not (marked m i && marked m j) || eqb i j) (λ v. omega (arith, few, ltb→lt 1 (length (members 3 m)) v)) t in
+    eqb→eq i j (or-right (not (marked m i && marked m j)) (eqb i j) (λ v. (rw (a, b) at v)) u)
+
+pub few-marks : {A : ℕ → Type 0} {n m : ℕ} → n ≤ 3 → Marks A n m → m < 8
+few-marks h g = lt-of-lt-of-le (g .short) (pow-mono h)
+
 -- ---- the candidates
 
 abbrev differ : ℕ → ℕ → Bool
@@ -92,8 +114,56 @@ pub marks-open :
 marks-open S x e = rw e (marks-fewer (marks-apart (S .los) (S .his)) (few-positions (S .kind)) (λ i l u n. n (x i l u)))
 
 module _ (S : Spot) (t : ℕ) {o : ℕ} (g : Marks (Open S) (positions S) o) where
-  pub none-open : o ≡ 0 → Marks (Candidate S t) (positions S) 0
-  none-open e = marks-same (rw e at g) (λ i l n. absurd (marks-none g e i l n)) (λ i l c. c .open-bits)
+  pub fair-open : (0 < positions S → Fair S) → 1 < length (listed o) → Fair S
+  fair-open f h = let z = marks-some g (omega (arith, h, count-is o (few-marks (few-positions (S .kind)) g))) in f (omega (arith, z .1))
+
+  inside : (i : ℕ) → i < positions S → i < 3
+  inside i l = omega (arith, few-positions (S .kind))
+
+  -- at most one is open: the others keep their values, so that, where any position is essential, the open one is
+  module _ (fair : 0 < positions S → Fair S) (one : length (listed o) ≤ 1) where
+    open-marked : (i : ℕ) → i < positions S → Open S i → marked o i ≡ true
+    open-marked i l n = decides-unique (Open S i) (marked o i) true (g .each i l) n
+
+    module _ (i : ℕ) (l : i < positions S) (n : Open S i) where
+      fixed : (j : ℕ) → j < positions S → (j ≡ i → ⊥) → at (S .los) j ≡ at (S .his) j
+      fixed j k x =
+          elim (ℕ-discrete (at (S .los) j) (at (S .his) j)) [
+            | yes e ↦ e
+            | no y ↦ absurd (x (sole-marked o j i (few-marks (few-positions (S .kind)) g) (inside j k) (inside i l) one (open-marked j k y) (open-marked i l n)))
+          ]
+
+      slot : (j : ℕ) → j < positions S → Agrees (at (S .los) j) (at (S .his) j) (at (S .current) j)
+      slot j k = fair (omega arith) .slots j k .agrees
+
+      -- others that agree are the current ones
+      as-they-are :
+          (x : Three)
+          → ((j : ℕ) → Other S i j → Agrees (at (S .los) j) (at (S .his) j) (at x j))
+          → value S (put x i (at (S .current) i)) ≡ value S (S .current)
+      as-they-are x ag = value-used S _ _ same
+        where
+          same : (j : ℕ) → j < positions S → at (put x i (at (S .current) i)) j ≡ at (S .current) j
+          same j k =
+              elim (ℕ-discrete j i) [
+                | yes e ↦ rw e (at-put-same x i _ (inside i l))
+                | no y ↦
+                    at-put-other x i _ j (inside i l) (inside j k) y
+                    ∙ agrees-only (ag j (record { below = k; apart = y })) (fixed j k y)
+                    ∙ sym (agrees-only (slot j k) (fixed j k y))
+              ]
+
+      essential-too : (j : ℕ) → j < positions S → Essential S t j → Essential S t i
+      unfolding Essential
+      essential-too j k e =
+          λ x ag gi. e (S .current) (λ m q. slot m (q .below)) (rw (put-same (S .current) j _ refl) (sym (as-they-are x ag) ∙ gi))
+
+      wanted : Essential S t i ⊎ NoneEssential S t
+      unfolding NoneEssential
+      wanted = elim (dec-essential S t i l) [ yes e ↦ inl e | no x ↦ inr (λ j k e. x (essential-too j k e)) ]
+
+    pub sole-open : Marks (Candidate S t) (positions S) o
+    sole-open = marks-same g (λ i l n. record { wanted = wanted i l n; open-bits = n }) (λ i l c. c .open-bits)
 
   module _ {m : ℕ} (h : Marks (Essential S t) (positions S) m) where
     pub none-essential : m ≡ 0 → Marks (Candidate S t) (positions S) o
@@ -111,7 +181,7 @@ module _ (S : Spot) (t : ℕ) {o : ℕ} (g : Marks (Open S) (positions S) o) whe
 
 module _ (S : Spot) (t : ℕ) {m : ℕ} (g : Marks (Candidate S t) (positions S) m) where
   pub few : m < 8
-  few = lt-of-lt-of-le (g .short) (pow-mono (few-positions (S .kind)))
+  few = few-marks (few-positions (S .kind)) g
 
   lists : Lists (Candidate S t) (positions S) (listed m)
   lists = lists-marked (few-positions (S .kind)) g

@@ -32,29 +32,29 @@ fn open_positions(s: Spot) -> u32
     marks(lo.a != hi.a, lo.b != hi.b, lo.c != hi.c)
 }
 
-// "Candidates are the essential positions if there are any, else all; then those whose operand is fully fixed are dropped."
-fn candidates(s: Spot, t: u64) -> u32
-    requires { ⌜ Stepping s t ⌝ }
-    ensures { λ r. ⌜ Marks (Candidate s t) (positions s) r ⌝ }
-{
-    // None is open, or the node has no positions: nothing else need be asked.
-    let opens = open_positions(s);
-    if opens == 0 {
-        return 0;
-    }
-    let essentials = essential_positions(s, t);
-    if essentials == 0 {
-        return opens;
-    }
-    essentials & opens
-}
-
 // How many positions m marks: of each bit, 1, 2 or 4, its half and its quarter leave 1.
 fn count(m: u32) -> u64
     requires { ⌜ m < 8 ⌝ }
     ensures { λ r. ⌜ r ≡ length (listed m) ⌝ }
 {
     (m - m / 2 - m / 4) as u64
+}
+
+// "Candidates are the essential positions if there are any, else all; then those whose operand is fully fixed are dropped."
+fn candidates(s: Spot, t: u64) -> u32
+    requires { ⌜ Stepping s t ⌝ }
+    ensures { λ r. ⌜ Marks (Candidate s t) (positions s) r ⌝ }
+{
+    // Where one is open, or none, the others stand as they are: it is essential if any position is, so nothing need be asked.
+    let opens = open_positions(s);
+    if count(opens) <= 1 {
+        return opens;
+    }
+    let essentials = essential_positions(s, t);
+    if essentials == 0 {
+        return opens;
+    }
+    essentials & opens
 }
 
 // The position numbered k among those that m marks. (Looked up: which one it is, no branch would guess.)
