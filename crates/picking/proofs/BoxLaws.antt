@@ -84,6 +84,9 @@ solves-none f = record { fine = tt; to = λ v h m. absurd m; back = λ v h m. ab
 pub same-by : {w x t : ℕ} {r : Set} (f : ℕ → ℕ) → w ≤ 64 → ((v : ℕ) → v < 2 ^ w → f v ≡ x) → Solves 64 (λ v. x ≡ t) r → Solves w (λ v. f v ≡ t) r
 same-by f h e s = solves-by h s (λ v l m. e v l ∙ m) (λ v l m. sym (e v l) ∙ m)
 
+pub only-one : (c : ℕ) → Solves 64 (λ v. v ≡ c) (Only c true)
+only-one c = record { fine = tt; to = λ v h m. m .0; back = λ v h m. (m, refl) }
+
 -- only k can give t
 pub only-by : {w k x t : ℕ} {r : Set} (f : ℕ → ℕ) → w ≤ 64 → ((v : ℕ) → f v ≡ t → v ≡ k) → x ≡ f k → Solves 64 (λ v. (v ≡ k) × (x ≡ t)) r → Solves w (λ v. f v ≡ t) r
 only-by f h u e s = solves-by h s (λ v l m. ap f (m .0) ∙ sym e ∙ m .1) (λ v l m. (u v m, e ∙ ap f (sym (u v m)) ∙ m))

@@ -3,15 +3,24 @@ use crate::basic;
 use crate::boxes::Set;
 use crate::unions::Union;
 ghost use mathlib.Core.Path.{_≡_};
+ghost use mathlib.Core.Bool.{true};
 ghost use Prim.Native.Nat.{_+_, _*_, _%_, _^_, _<_};
 ghost use Rattle.picking.specs.inner.Boxes.{Solves, Some};
 ghost use Rattle.picking.specs.inner.Asks.{Sized};
+
+// The one value that gives t with s.
+pub(crate) fn difference(w: u32, s: u64, t: u64) -> u64
+    requires { ⌜ Sized w t ⌝ }
+    ensures { λ r. ⌜ Solves w (λ v. (v + s) % 2 ^ w ≡ t) (Set.Only r true) ⌝ }
+{
+    words::cut(std::num::wrapping_sub_u64(t, s), w)
+}
 
 pub(crate) fn inverse_add(w: u32, s: u64, t: u64) -> Set
     requires { ⌜ Sized w t ⌝ }
     ensures { λ r. ⌜ Solves w (λ v. (v + s) % 2 ^ w ≡ t) r ⌝ }
 {
-    basic::only(words::cut(std::num::wrapping_sub_u64(t, s), w))
+    Set::Only(difference(w, s, t), true)
 }
 
 // s is 2^k times an odd number: 2^k has to divide t, and then the w - k low bits are those of t / 2^k times the odd

@@ -3,6 +3,7 @@
 use crate::basic;
 use crate::boxes::Set;
 ghost use mathlib.Core.Path.{_≡_};
+ghost use mathlib.Core.Bool.{true};
 ghost use Prim.Native.Nat.{_-_, _^_};
 ghost use lib.Bits.{bitAnd, bitXor};
 ghost use Rattle.words.specs.Agree.{Within};
@@ -35,10 +36,17 @@ pub(crate) fn consistent_and(l: u64, h: u64, t: u64) -> Set
     basic::agreeing(t, t | !l)
 }
 
+// The one value that gives t with s.
+pub(crate) fn turned(s: u64, t: u64) -> u64
+    ensures { λ r. ⌜ Solves 64 (λ v. bitXor v s ≡ t) (Set.Only r true) ⌝ }
+{
+    t ^ s
+}
+
 pub(crate) fn inverse_xor(s: u64, t: u64) -> Set
     ensures { λ r. ⌜ Solves 64 (λ v. bitXor v s ≡ t) r ⌝ }
 {
-    basic::only(t ^ s)
+    Set::Only(turned(s, t), true)
 }
 
 // The xor of t with the other's pair: free where the pair is.

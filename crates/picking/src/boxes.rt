@@ -124,7 +124,7 @@ fn pick_in_box(b: Box, p: u64) -> Found
 }
 
 // The pick from a single value: it is there and agrees with lo, hi or not.
-fn pick_only(c: u64, there: bool, lo: u64, hi: u64) -> Found
+pub(crate) fn pick_only(c: u64, there: bool, lo: u64, hi: u64) -> Found
     ensures { λ r. ⌜ ((p : ℕ) → Picked (Chosen (Set.Only c there) lo hi) p r) ⌝ }
 {
     if words::agrees(c, lo, hi) & there {

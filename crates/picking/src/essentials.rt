@@ -1,14 +1,19 @@
 // Whether a position is essential: no values of the others that agree give t while it keeps its current value.
+use crate::arithmetic::difference;
+use crate::bitwise::turned;
+use crate::boxes::pick_only;
 use crate::choice::branch;
 use crate::picks::pick;
 use crate::spot::Spot;
 use crate::spot::at;
 use crate::spot::marks;
+use crate::spot::other;
 use words::Found;
 ghost use mathlib.Core.Path.{_≡_};
 ghost use Prim.Native.Nat.{_^_, _≤_, _<_};
+ghost use Rattle.words.specs.Pick.{Picked};
 ghost use Rattle.words.specs.inner.Decides.{Decides};
-ghost use Rattle.picking.specs.Spot.{positions, value, Fair, Essential, Asked};
+ghost use Rattle.picking.specs.Spot.{positions, value, Fair, Inverse, Essential, Asked};
 ghost use Rattle.picking.specs.inner.Asks.{Alone, Had};
 ghost use Rattle.picking.specs.inner.Marks.{Marks};
 
@@ -35,12 +40,30 @@ fn essential_alone(s: Spot, t: u64) -> bool
     value_now(s) != t
 }
 
+// An inverse value, if there is one. Of xor and add there is one value to ask for, and no set to be made.
+fn some_inverse(s: Spot, i: u32, t: u64) -> Found
+    requires { ⌜ Asked s i t ⌝ }
+    ensures { λ r. ⌜ Picked (Inverse s t i) 0 r ⌝ }
+{
+    let los = s.los;
+    let his = s.his;
+    let now = s.current;
+    let y = other(now, i);
+    if s.kind == 4 {
+        return pick_only(turned(y, t), true, at(los, i), at(his, i));
+    }
+    if s.kind == 5 {
+        return pick_only(difference(s.width, y, t), true, at(los, i), at(his, i));
+    }
+    pick(s, i, t, 0, true)
+}
+
 // Of two positions one is essential exactly if the other has no inverse value: none that agrees with its pair.
 fn essential_of_two(s: Spot, i: u32, t: u64) -> bool
     requires { ⌜ Asked s i t × (positions s ≡ 2) ⌝ }
     ensures { λ r. ⌜ Decides (Essential s t i) r ⌝ }
 {
-    let Found::At(_) = pick(s, 1 - i, t, 0, true) else {
+    let Found::At(_) = some_inverse(s, 1 - i, t) else {
         return true;
     };
     false

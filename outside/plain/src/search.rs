@@ -242,11 +242,12 @@ fn step(
     let node = &nodes[id];
     let spot = spot(nodes, pairs, values, node);
     let count = operands(spot.kind);
-    let (mut essentials, mut open) = (0u8, 0u8);
-    for position in 0..count {
-        essentials |= u8::from(essential(&spot, position, target)) << position;
-        open |= u8::from(spot.lo[position] != spot.hi[position]) << position;
-    }
+    let open = (0..count).fold(0u8, |open, at| open | u8::from(spot.lo[at] != spot.hi[at]) << at);
+    // Where one is open, or none, the others stand as they are: it is essential if any position is.
+    let essentials = match open.count_ones() {
+        0 | 1 => 0,
+        _ => (0..count).fold(0u8, |set, at| set | u8::from(essential(&spot, at, target)) << at),
+    };
     let candidates = if essentials != 0 { essentials & open } else { open };
     if candidates == 0 {
         return None;

@@ -1,14 +1,13 @@
--- Xor undoes itself.
-use borrow.Author.Needs.{needs}
-use Rattle.picking.proofs.BitwiseLaws.{xor-by}
+-- The one value.
 use Rattle.picking.proofs.bitwise.inverse_xor.Statement.{statement}
 use Rattle.picking.proofs.bitwise.inverse_xor.Tie as tie
+use borrow.Author.Needs.{needs}
 
-only-requires : tie.Need-only-requires
-only-requires c κs = search needs
+turned-requires : tie.Need-turned-requires
+turned-requires c κs = search needs
 
 returns : tie.Need-returns
-returns c = xor-by (c .before .args .s) (c .before .args .t) (c .only .ensures)
+returns c = c .turned .ensures
 
 pub inverse-xor-spec : {M : Type 1} → statement M
-inverse-xor-spec = tie.close (tie.spec only-requires returns)
+inverse-xor-spec = tie.close (tie.spec turned-requires returns)

@@ -5,12 +5,12 @@ use Rattle.picking.proofs.EssentialLaws.{two-told}
 use Rattle.picking.proofs.essentials.essential_of_two.Statement.{statement}
 use Rattle.picking.proofs.essentials.essential_of_two.Tie as tie
 
-sub-pick : tie.Need-sub-pick
-sub-pick c = search needs
+sub-some-inverse : tie.Need-sub-some-inverse
+sub-some-inverse c = search needs
 
 -- src/essentials.rt:36:24
-pick-requires : tie.Need-pick-requires
-pick-requires c κs = let s = c in record { fair = s .pre .0 .fair; position = rw (s .pre .1) (omega arith); target = s .pre .0 .target }
+some-inverse-requires : tie.Need-some-inverse-requires
+some-inverse-requires c κs = let s = c in record { fair = s .pre .0 .fair; position = rw (s .pre .1) (omega arith); target = s .pre .0 .target }
 
 enum-told : tie.Need-enum-told
 enum-told c = search needs
@@ -23,14 +23,14 @@ enum-told-2 c = search needs
 returns : tie.Need-returns
 returns c =
     let p = c .before .before in
-    two-told (p .before .pre .0) (p .before .pre .1) (p .pick .result) (p .pick .ensures) .0 (c .enum-told2 .given .1)
+    two-told (p .before .pre .0) (p .before .pre .1) (p .some-inverse .result) (p .some-inverse .ensures) .0 (c .enum-told2 .given .1)
 
 -- src/essentials.rt:32:1
 returns-2 : tie.Need-returns-2
 returns-2 c =
     let p = c .before .before in
-    two-told (p .before .pre .0) (p .before .pre .1) (p .pick .result) (p .pick .ensures) .1 _ (c .enum-told .given .1)
+    two-told (p .before .pre .0) (p .before .pre .1) (p .some-inverse .result) (p .some-inverse .ensures) .1 _ (c .enum-told .given .1)
 
 pub essential-of-two-spec : {M : Type 1} → statement M
 essential-of-two-spec =
-    tie.close (tie.spec sub-pick pick-requires enum-told enum-told-2 returns returns-2)
+    tie.close (tie.spec sub-some-inverse some-inverse-requires enum-told enum-told-2 returns returns-2)
