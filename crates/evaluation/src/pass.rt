@@ -59,16 +59,24 @@ fn pass_node(bytes: &[u8], values: &mut [u64], marks: &mut [u8], i: u16, all: bo
     1
 }
 
-// The nodes from `first` on: all, or those above v, of which `first` is the first that reads it. Answers how many these are.
-fn pass(bytes: &[u8], values: &mut [u64], marks: &mut [u8], v: u16, first: u16, all: bool) -> u64
-    requires { ⌜ Asked (now bytes) (now values) v first all × Clear (now bytes) (now marks) ⌝ }
+// The nodes from `first` up to `end`: all, or those above v, of which `first` is the first that reads it, and none stands at `end` or
+// after it. Answers how many these are.
+fn pass(
+    bytes: &[u8],
+    values: &mut [u64],
+    marks: &mut [u8],
+    v: u16,
+    first: u16,
+    end: u16,
+    all: bool,
+) -> u64
+    requires { ⌜ Asked (now bytes) (now values) v first end all × Clear (now bytes) (now marks) ⌝ }
     ensures { λ r. ⌜ Answered (now (bytes .entry)) (now (values .entry)) v all (now (values .exit)) r ⌝ }
 {
     marks[v as usize] = 1;
-    let n = node_count(bytes);
     let mut count: u64 = 1;
     let mut i = first;
-    while i < n {
+    while i < end {
         count += pass_node(bytes, values, marks, i, all);
         i += 1;
     }
@@ -76,14 +84,21 @@ fn pass(bytes: &[u8], values: &mut [u64], marks: &mut [u8], v: u16, first: u16, 
 }
 
 // The same with marks of its own: few nodes need few.
-pub(crate) fn pass_over(bytes: &[u8], values: &mut [u64], v: u16, first: u16, all: bool) -> u64
-    requires { ⌜ Asked (now bytes) (now values) v first all ⌝ }
+pub(crate) fn pass_over(
+    bytes: &[u8],
+    values: &mut [u64],
+    v: u16,
+    first: u16,
+    end: u16,
+    all: bool,
+) -> u64
+    requires { ⌜ Asked (now bytes) (now values) v first end all ⌝ }
     ensures { λ r. ⌜ Answered (now (bytes .entry)) (now (values .entry)) v all (now (values .exit)) r ⌝ }
 {
     if node_count(bytes) <= 128 {
         let mut marks = [0u8; 128];
-        return pass(bytes, values, &mut marks, v, first, all);
+        return pass(bytes, values, &mut marks, v, first, end, all);
     }
     let mut marks = [0u8; 1024];
-    pass(bytes, values, &mut marks, v, first, all)
+    pass(bytes, values, &mut marks, v, first, end, all)
 }

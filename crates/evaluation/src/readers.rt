@@ -1,9 +1,11 @@
-// The index of readers, built from the last node down: each link goes before those of higher ids, so that every chain ascends.
+// The index of readers, built from the last node down: each link goes before those of higher ids, so that every chain ascends. Until
+// node i has its links, slot 4i + 1 tells where what is above it ends: all that read it are linked before it, and hand theirs down to
+// it. A variable has no links, so there it stays.
 ghost use mathlib.Core.Path.{_≡_};
-ghost use Prim.Native.Nat.{_+_, _*_, _<_};
+ghost use Prim.Native.Nat.{_+_, _*_, _<_, max};
 ghost use lib.ListN.{length};
 ghost use Rattle.evaluation.specs.Problem.{problem};
-ghost use Rattle.evaluation.specs.inner.Readers.{links as linksAt, operandAt, inFront, Linkable, Linking, Unindexed, Indexed};
+ghost use Rattle.evaluation.specs.inner.Readers.{links as linksAt, operandAt, raised, inFront, Linkable, Linking, Unindexed, Indexed};
 use crate::operands::operand;
 use operators::operand_count;
 use problem::Node;
@@ -23,14 +25,32 @@ fn links(n: Node, j: u32) -> bool
     }
 }
 
-// Node i, which is n, put in front of the readers of its operand at position j.
-fn link(slots: &mut [u16], n: Node, i: u16, j: u16)
+// The greater of two.
+fn greater(x: u16, y: u16) -> u16
+    ensures { λ r. ⌜ r ≡ max x y ⌝ }
+{
+    if x < y { y } else { x }
+}
+
+// What is above m ends at `end` or later.
+fn raise(slots: &mut [u16], m: u16, end: u16)
+    requires { ⌜ 4 * m + 1 < length (now slots) ⌝ }
+    ensures { λ r. ⌜ now (slots .exit) ≡ raised m end (now (slots .entry)) ⌝ }
+{
+    let at = 4 * (m as usize) + 1;
+    slots[at] = greater(slots[at], end);
+}
+
+// Node i, which is n, put in front of the readers of its operand at position j. What is above i ends at `end`.
+fn link(slots: &mut [u16], n: Node, i: u16, j: u16, end: u16)
     requires { ⌜ Linkable (now slots) n i j ⌝ }
-    ensures { λ r. ⌜ now (slots .exit) ≡ inFront (linksAt n j) (operandAt n j) (4 * i + 1 + j) (now (slots .entry)) ⌝ }
+    ensures { λ r. ⌜ now (slots .exit) ≡ inFront (linksAt n j) (operandAt n j) (4 * i + 1 + j) end (now (slots .entry)) ⌝ }
 {
     if links(n, j as u32) {
-        let begin = 4 * (operand(n, j as u32) as usize);
+        let m = operand(n, j as u32);
+        let begin = 4 * (m as usize);
         let own = 4 * i + 1 + j;
+        raise(slots, m, end);
         slots[own as usize] = slots[begin];
         slots[begin] = own;
     }
@@ -42,9 +62,10 @@ fn link_node(bytes: &[u8], slots: &mut [u16], i: u16)
     ensures { λ r. ⌜ Linking (now (bytes .entry)) i (now (slots .exit)) × (length (now (slots .exit)) ≡ length (now (slots .entry))) ⌝ }
 {
     let n = node_at(bytes, i);
-    link(slots, n, i, 2);
-    link(slots, n, i, 1);
-    link(slots, n, i, 0);
+    let end = greater(slots[4 * (i as usize) + 1], i + 1);
+    link(slots, n, i, 2, end);
+    link(slots, n, i, 1, end);
+    link(slots, n, i, 0, end);
 }
 
 // The index of a problem.

@@ -3,7 +3,7 @@ use mathlib.Core.Path.{_≡_}
 use mathlib.Core.Bool.{Bool, true, false, not, _&&_}
 use mathlib.Core.Logic.{_⊎_}
 use mathlib.Core.List.{List, [], _∷_}
-use Prim.Native.Nat.{ℕ, zero, suc, _+_, _*_, _≤_, _<_}
+use Prim.Native.Nat.{ℕ, zero, suc, _+_, _*_, _≤_, _<_, max}
 use lib.Dec.{ltb, eqb}
 use lib.ListN.{length, getD, set}
 use Rattle.operators.specs.Table.{kindCount}
@@ -37,10 +37,14 @@ links n j = linked (operandCount n) (ids n) j
 abbrev pub operandAt : Node → ℕ → ℕ
 operandAt n j = at (ids n) j
 
--- slot p put in front of the chain of m's readers, where there is a link
-unfoldable pub inFront : Bool → ℕ → ℕ → List ℕ → List ℕ
-inFront true m p slots = set (set slots p (getD slots (4 * m) 0)) (4 * m) p
-inFront false m p slots = slots
+-- slot 4m + 1 is to hold no less than e
+unfoldable pub raised : ℕ → ℕ → List ℕ → List ℕ
+raised m e slots = set slots (4 * m + 1) (max (getD slots (4 * m + 1) 0) e)
+
+-- slot p put in front of the chain of m's readers, where there is a link, and slot 4m + 1 raised to e
+unfoldable pub inFront : Bool → ℕ → ℕ → ℕ → List ℕ → List ℕ
+inFront true m p e slots = set (set (raised m e slots) p (getD (raised m e slots) (4 * m) 0)) (4 * m) p
+inFront false m p e slots = slots
 
 -- a chain all of whose links are slots from q on
 pub data ChainFrom (q : ℕ) (slots : List ℕ) : ℕ → List ℕ → Type 0 where
@@ -58,7 +62,22 @@ pub record Linkable (slots : List ℕ) (n : Node) (i j : ℕ) : Type 0 where
   pub few : i < 1024
   pub position : j < 3
   pub own : 4 * i + 4 ≤ length slots
-  pub begin : links n j ≡ true → 4 * operandAt n j < length slots
+  pub begin : links n j ≡ true → 4 * operandAt n j + 1 < length slots
+
+-- node m has no links in an index of the nodes from i on
+abbrev pub Unlinked : List ℕ → ℕ → ℕ → Type 0
+Unlinked s i m = (m < i) ⊎ Variable (problem s) m
+
+-- then its slot 4m + 1 tells where what is above it ends: what is above a node from i on that reads it stands before that
+pub record Ended (s : List ℕ) (i : ℕ) (slots : List ℕ) (m : ℕ) : Type 0 where
+  pub most : getD slots (4 * m + 1) 0 ≤ problem s .nodes
+  pub past :
+      (n k : ℕ)
+      → i ≤ n
+      → n < problem s .nodes
+      → Reads (problem s) m n
+      → Above (problem s) n k
+      → k < getD slots (4 * m + 1) 0
 
 -- of the nodes from i on, those that read m stand in its chain; no slot before theirs is a link
 pub record Linking (s : List ℕ) (i : ℕ) (slots : List ℕ) : Type 0 where
@@ -67,6 +86,7 @@ pub record Linking (s : List ℕ) (i : ℕ) (slots : List ℕ) : Type 0 where
   pub readers : ℕ → List ℕ
   pub chain : (m : ℕ) → m < problem s .nodes → ChainFrom (4 * i) slots (getD slots (4 * m) 0) (readers m)
   pub each : (m : ℕ) → m < problem s .nodes → ListsFrom (Reads (problem s) m) (problem s .nodes) i (readers m)
+  pub end : (m : ℕ) → Unlinked s i m → Ended s i slots m
 
 -- an accepted problem, and four zeros for each node
 pub record Unindexed (s slots : List ℕ) : Type 0 where
@@ -74,10 +94,11 @@ pub record Unindexed (s slots : List ℕ) : Type 0 where
   pub room : 4 * problem s .nodes ≤ length slots
   pub none : (k : ℕ) → getD slots k 0 ≡ 0
 
--- what the run's working state has beside an accepted problem
+-- what the run's working state has beside an accepted problem: the index, and for each variable where what is above it ends
 pub record Indexed (s slots : List ℕ) : Type 0 where
   pub room : 4 * problem s .nodes ≤ length slots
   pub index : Index (problem s) slots
+  pub end : (v : ℕ) → Variable (problem s) v → Ended s 0 slots v
 
 -- ---- pass.rt
 
@@ -140,18 +161,20 @@ pub record Renewal (s vs : List ℕ) (v : ℕ) (us : List ℕ) (r : ℕ) : Type 
   pub values : us ≡ evaluate (problem s) vs
   pub count : Count (Above (problem s) v) (problem s .nodes) r
 
--- the same, where `first` is the first node that reads v
-pub record Due (s vs : List ℕ) (v first : ℕ) : Type 0 where
+-- the same, where `first` is the first node that reads v, and all nodes above v but itself stand before `end`
+pub record Due (s vs : List ℕ) (v first end : ℕ) : Type 0 where
   pub slots : List ℕ
   pub changed : Changed s slots vs v
   pub inside : first < problem s .nodes
   pub reads : Reads (problem s) v first
   pub least : (n : ℕ) → n < first → Reads (problem s) v n → ⊥
+  pub most : end ≤ problem s .nodes
+  pub past : (k : ℕ) → v < k → Above (problem s) v k → k < end
 
 -- what a pass over all nodes asks, and one over those above v; and what each answers
-pub data Asked (s vs : List ℕ) (v first : ℕ) : Bool → Type 0 where
-  whole : Assigned s vs → v ≡ 0 → first ≡ 0 → Asked s vs v first true
-  part : Due s vs v first → Asked s vs v first false
+pub data Asked (s vs : List ℕ) (v first end : ℕ) : Bool → Type 0 where
+  whole : Assigned s vs → v ≡ 0 → first ≡ 0 → end ≡ problem s .nodes → Asked s vs v first end true
+  part : Due s vs v first end → Asked s vs v first end false
 
 pub data Answered (s vs : List ℕ) (v : ℕ) : Bool → List ℕ → ℕ → Type 0 where
   whole : {us : List ℕ} {r : ℕ} → us ≡ evaluate (problem s) vs → Answered s vs v true us r

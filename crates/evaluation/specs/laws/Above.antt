@@ -1,6 +1,7 @@
 -- Laws of what lies above a node: it can be decided, by searches that are never run, so it has its list; a changed variable bears
 -- on nothing else; and to evaluate that list is to evaluate all.
-use mathlib.Core.Path.{_≡_, refl, sym, _∙_}
+use mathlib.Core.Path.{_≡_, refl, sym, _∙_, subst}
+use mathlib.Core.Logic.{_⊎_, inl, inr}
 use mathlib.Core.List.{List, [], _∷_, _++_}
 use Prim.Native.Nat.{ℕ, zero, suc, _+_, _≤_, _<_}
 use native.Mathlib.Omega.{arith}
@@ -17,6 +18,22 @@ use Rattle.evaluation.specs.laws.Nodes.{value-own, value-same}
 use Rattle.evaluation.specs.laws.Values.{length-evaluate, evaluate-above, evaluate-variable, evaluate-fixed}
 use Rattle.evaluation.specs.Readers.{Reads, Above, itself, onward, evalOver}
 use Rattle.evaluation.specs.laws.Decide.{Some, Listed, dec-both, dec-map, dec-some, listed}
+
+-- a reader of v that k is above
+pub record Through (P : Prob) (v k : ℕ) : Type 0 where
+  pub reader : ℕ
+  pub inside : reader < P .nodes
+  pub reads : Reads P v reader
+  pub above : Above P reader k
+
+-- what is above v is v or above one of its readers
+pub above-through : {P : Prob} {v k : ℕ} → Above P v k → (k ≡ v) ⊎ Through P v k
+above-through itself = inl refl
+above-through {P} {v} (onward {m} {n} a l r) =
+    elim (above-through a) [
+      | inl e ↦ inr (record { reader = n; inside = l; reads = subst (λ (k : ℕ). Reads P k n) e r; above = itself })
+      | inr t ↦ inr (record { reader = t .reader; inside = t .inside; reads = t .reads; above = onward (t .above) l r })
+    ]
 
 module _ (P : Prob) (g : Good P) where
   pub reads-below : {m n : ℕ} → n < P .nodes → Reads P m n → m < n

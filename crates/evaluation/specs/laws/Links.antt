@@ -2,7 +2,7 @@
 use mathlib.Core.Path.{_≡_, refl, sym, ap, _∙_}
 use mathlib.Core.Bool.{Bool, true, false, not, _&&_, true≢false}
 use mathlib.Core.List.{List, _∷_}
-use Prim.Native.Nat.{ℕ, zero, suc, _<_}
+use Prim.Native.Nat.{ℕ, zero, suc, _≤_, _<_, max}
 use native.Mathlib.Omega.{arith}
 use lib.Dec.{ltb, eqb}
 use borrow.Author.Tests.{ltb-true, lt-ltb, eqb-true, eq-eqb, ne-eqb}
@@ -17,6 +17,32 @@ use Rattle.evaluation.specs.inner.Readers.{fresh, linked}
 abbrev pub grown : Bool → ℕ → List ℕ → List ℕ
 grown true i l = i ∷ l
 grown false i l = l
+
+-- a number that is no less than e, where b says so
+abbrev pub upTo : Bool → ℕ → ℕ → ℕ
+upTo true e a = max a e
+upTo false e a = a
+
+one-more : (b : Bool) (e a : ℕ) → a ≤ upTo b e a
+one-more true e a = omega arith
+one-more false e a = omega arith
+
+one-most : (b : Bool) (e a n : ℕ) → a ≤ n → e ≤ n → upTo b e a ≤ n
+one-most true e a n p q = omega arith
+one-most false e a n p q = p
+
+-- thrice
+pub upTo-more : (x y z : Bool) (e a : ℕ) → a ≤ upTo x e (upTo y e (upTo z e a))
+upTo-more x y z e a = omega (arith, one-more z e a, one-more y e (upTo z e a), one-more x e (upTo y e (upTo z e a)))
+
+pub upTo-most : (x y z : Bool) (e a n : ℕ) → a ≤ n → e ≤ n → upTo x e (upTo y e (upTo z e a)) ≤ n
+upTo-most x y z e a n p q = one-most x e (upTo y e (upTo z e a)) n (one-most y e (upTo z e a) n (one-most z e a n p q) q) q
+
+upTo-three : (x y z : Bool) (e a : ℕ) → (x ≡ false → y ≡ false → z ≡ false → ⊥) → e ≤ upTo x e (upTo y e (upTo z e a))
+upTo-three true y z e a some = omega arith
+upTo-three false true z e a some = omega arith
+upTo-three false false true e a some = omega arith
+upTo-three false false false e a some = absurd (some refl refl refl)
 
 and-both : (a b : Bool) → (a && b) ≡ true → (a ≡ true) × (b ≡ true)
 and-both true true e = (refl, refl)
@@ -119,3 +145,7 @@ module _ (P : Prob) (m n : ℕ) where
       (λ y z. not-eqb _ _ (hit-last z .1) (hit-is 2 z ∙ sym (hit-is 1 y)))
       none-hit
       s
+
+  -- and hands down where what is above it ends
+  pub handed-down : (e a : ℕ) → Reads P m n → e ≤ upTo (hits 0) e (upTo (hits 1) e (upTo (hits 2) e a))
+  handed-down e a r = upTo-three (hits 0) (hits 1) (hits 2) e a (λ x y z. none-hit x y z r)

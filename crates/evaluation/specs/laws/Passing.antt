@@ -20,7 +20,7 @@ use Rattle.evaluation.specs.Readers.{Chain, Reads, Above, itself, onward
 use Rattle.evaluation.specs.inner.Good.{Good}
 use Rattle.evaluation.specs.inner.Evaluation.{operandCount, Evaluable, Assigned}
 use Rattle.evaluation.specs.inner.Lists.{Count}
-use Rattle.evaluation.specs.inner.Readers.{operandAt, Tells, Marked, Markable, ReadsMarked, Wanted, Passed, Passed.renewed, Passed.left, Clear, Due, Asked, Asked.whole, Asked.part, Answered, Answered.whole, Answered.part, Changed, Renewal}
+use Rattle.evaluation.specs.inner.Readers.{operandAt, Tells, Marked, Markable, ReadsMarked, Wanted, Passed, Passed.renewed, Passed.left, Clear, Ended, Due, Asked, Asked.whole, Asked.part, Answered, Answered.whole, Answered.part, Changed, Renewal}
 use Rattle.evaluation.specs.laws.Decide.{Some, lists-find, lists-length, lists-member}
 use Rattle.evaluation.specs.laws.Good.{good-of}
 use Rattle.evaluation.specs.laws.Values.{length-evalUp, evalUp-none, evalUp-step, evalUp-lt, evaluate-variable}
@@ -28,7 +28,7 @@ use Rattle.evaluation.specs.laws.Lists.{count-none, count-keep, count-sk
 use Rattle.evaluation.specs.laws.Linking.{zeros-at}
 use Rattle.evaluation.specs.laws.Readings.{kind-there, evaluable, evaluated-all}
 use Rattle.evaluation.specs.laws.Chains.{chain-none, chain-first}
-use Rattle.evaluation.specs.laws.Above.{Renewed, renewed-none, renewed-all, renewed-skip, renewed-keep, above-from, reads-below}
+use Rattle.evaluation.specs.laws.Above.{Renewed, renewed-none, renewed-all, renewed-skip, renewed-keep, above-from, above-through, reads-below}
 
 -- ---- whether a node reads a marked one, by how many operands it has
 
@@ -206,6 +206,9 @@ module _ {s slots vs : List ℕ} {v : ℕ} (C : Changed s slots vs v) where
   chained : Chain slots (getD slots (4 * v) 0) (C .indexed .index .readers v)
   chained = C .indexed .index .chain v (C .inside)
 
+  ended : Ended s 0 slots v
+  ended = C .indexed .end v (C .variable)
+
   -- nobody reads v
   pub alone : getD slots (4 * v) 0 ≡ 0 → Renewal s vs v vs 1
   alone e =
@@ -213,7 +216,7 @@ module _ {s slots vs : List ℕ} {v : ℕ} (C : Changed s slots vs v) where
       record { values = renewed-all P vs (le-refl (P .nodes)) (w .0); count = w .1 }
 
   -- the chain begins with the first that does
-  pub due : (getD slots (4 * v) 0 ≡ 0 → ⊥) → Due s vs v (getD slots (4 * v) 0 / 4)
+  pub due : (getD slots (4 * v) 0 ≡ 0 → ⊥) → Due s vs v (getD slots (4 * v) 0 / 4) (getD slots (4 * v + 1) 0)
   due x =
       let first = chain-first chained x in
       let m = lists-member listed 0 (first .0) in
@@ -223,15 +226,23 @@ module _ {s slots vs : List ℕ} {v : ℕ} (C : Changed s slots vs v) where
         inside = omega (arith, m .below, first .1);
         reads = rw (first .1) (m .holds);
         least = λ n h r. omega (arith, first .1, m .below, lists-least listed n (omega (arith, first .1, m .below)) r);
+        most = ended .most;
+        past = λ k h a.
+            elim (above-through a) [
+              | inl e ↦ absurd (omega arith)
+              | inr t ↦ ended .past (t .reader) k (omega arith) (t .inside) (t .reads) (t .above)
+            ];
       }
 
   module _ {i c : ℕ} {ws marks : List ℕ} (o : Passing s vs v i ws marks c) where
     pass-few : c ≤ 1024
     pass-few = omega (arith, o .inside, good .few, sym (o .counted .is), lists-length (o .counted .lists))
 
-    pass-end : i ≡ problem s .nodes → Renewal s vs v ws c
-    pass-end e =
-        record { values = renewed-all P vs (omega arith) (o .renewed); count = subst (λ (n : ℕ). Count (Above (problem s) v) n c) e (o .counted) }
+    -- no node from i on is above v
+    pass-end : ((k : ℕ) → v < k → Above (problem s) v k → k < i) → Renewal s vs v ws c
+    pass-end x =
+        let w = passed (P .nodes) (o .inside) (le-refl (P .nodes)) (λ k h l up. omega (arith, x k (omega (arith, o .after)) up)) (o .renewed) (o .counted) in
+        record { values = renewed-all P vs (le-refl (P .nodes)) (w .0); count = w .1 }
 
     module _ (l : i < problem s .nodes) where
       pass-evaluable : Evaluable s ws i
@@ -294,7 +305,7 @@ module _ {s slots vs : List ℕ} {v : ℕ} (C : Changed s slots vs v) where
           not-above a = x (inr (above-reads refl a))
 
 -- v is marked
-pass-start : {s vs marks : List ℕ} {v first : ℕ} → Due s vs v first → Clear s marks → Passing s vs v first vs (set marks v 1) 1
+pass-start : {s vs marks : List ℕ} {v first end : ℕ} → Due s vs v first end → Clear s marks → Passing s vs v first vs (set marks v 1) 1
 pass-start {s} {vs} {marks} {v} {first} D clear =
     let P : Prob = problem s in
     let C = D .changed in
@@ -327,13 +338,13 @@ pub data Going (s vs : List ℕ) (v i : ℕ) (ws marks : List ℕ) (c : ℕ) : B
       → Going s vs v i ws marks c true
   over-above : {slots : List ℕ} → Changed s slots vs v → Passing s vs v i ws marks c → Going s vs v i ws marks c false
 
-module _ {s vs marks : List ℕ} {v first : ℕ} where
-  pub going-marks : {all : Bool} → Asked s vs v first all → Clear s marks → v < length marks
-  going-marks (whole a z e) clear = omega (arith, clear .some)
+module _ {s vs marks : List ℕ} {v first end : ℕ} where
+  pub going-marks : {all : Bool} → Asked s vs v first end all → Clear s marks → v < length marks
+  going-marks (whole a z e l) clear = omega (arith, clear .some)
   going-marks (part D) clear = omega (arith, clear .room, D .changed .inside)
 
-  pub going-start : {all : Bool} → Asked s vs v first all → Clear s marks → Going s vs v first vs (set marks v 1) 1 all
-  going-start (whole a z e) clear =
+  pub going-start : {all : Bool} → Asked s vs v first end all → Clear s marks → Going s vs v first vs (set marks v 1) 1 all
+  going-start (whole a z e l) clear =
       over-all a (omega arith) (omega (arith, clear .room, length-set marks v 1)) (omega arith) (sym (ap (λ (k : ℕ). evalUp (problem s) k vs) e ∙ evalUp-none (problem s) vs))
   going-start (part D) clear = over-above (D .changed) (pass-start D clear)
 
@@ -377,9 +388,9 @@ module _ {s vs ws marks : List ℕ} {v i c : ℕ} where
       all-more a m h e b (left x p q z) = absurd (x (inl refl))
   going-more (over-above C o) b p = over-above C (pass-more C o b p)
 
-  pub going-end : {all : Bool} → Going s vs v i ws marks c all → problem s .nodes ≤ i → Answered s vs v all ws c
-  going-end (over-all a l r h e) b = whole (evaluated-all (problem s) vs ws i (omega arith) e)
-  going-end (over-above C o) b = part (pass-end C o (omega (arith, o .inside)))
+  pub going-end : {first end : ℕ} {all : Bool} → Asked s vs v first end all → Going s vs v i ws marks c all → end ≤ i → Answered s vs v all ws c
+  going-end (whole b z f q) (over-all a l r h e) p = whole (evaluated-all (problem s) vs ws i (omega arith) e)
+  going-end (part D) (over-above C o) p = part (pass-end C o (λ k h a. omega (arith, D .past k h a)))
 
 -- marks in an array of zeros
 pub clear-in : {s : List ℕ} (size : ℕ) → 0 < size → problem s .nodes ≤ size → Clear s (replicate size 0)
@@ -390,8 +401,13 @@ clear-in size p l =
       none = zeros-at size;
     }
 
-pub asked-few : {s vs : List ℕ} {v first : ℕ} {all : Bool} → Asked s vs v first all → problem s .nodes ≤ 1024
-asked-few {s} (whole a z e) = good-of s (a .accepted) .few
+-- what is asked for ends with the nodes
+pub asked-most : {s vs : List ℕ} {v first end : ℕ} {all : Bool} → Asked s vs v first end all → end ≤ problem s .nodes
+asked-most (whole a z e l) = omega arith
+asked-most (part D) = D .most
+
+pub asked-few : {s vs : List ℕ} {v first end : ℕ} {all : Bool} → Asked s vs v first end all → problem s .nodes ≤ 1024
+asked-few {s} (whole a z e l) = good-of s (a .accepted) .few
 asked-few (part D) = changed-few (D .changed)
 
 pub answered-whole : {s vs us : List ℕ} {v r : ℕ} → Answered s vs v true us r → us ≡ evaluate (problem s) vs

@@ -5,11 +5,11 @@ use borrow.Author.Needs.{needs}
 use Rattle.evaluation.proofs.above.evaluate_above.Statement.{statement}
 use Rattle.evaluation.proofs.above.evaluate_above.Tie as tie
 
+mul-begin : tie.Need-mul-begin
+mul-begin c = search needs
+
 mul-link : tie.Need-mul-link
 mul-link c = search needs
-
-mul-link-2 : tie.Need-mul-link-2
-mul-link-2 c = search needs
 
 shared-slice-read-link : tie.Need-shared-slice-read-link
 shared-slice-read-link c = search needs
@@ -17,8 +17,17 @@ shared-slice-read-link c = search needs
 returns : tie.Need-returns
 returns c = alone (c .before .before .before .before .before .pre) (c .if1 .taken)
 
+add-pass-over : tie.Need-add-pass-over
+add-pass-over c = search needs
+
+mul-pass-over : tie.Need-mul-pass-over
+mul-pass-over c = search needs
+
+shared-slice-read-pass-over : tie.Need-shared-slice-read-pass-over
+shared-slice-read-pass-over c = search needs
+
 pass-over-requires : tie.Need-pass-over-requires
-pass-over-requires c κs = let e = c .before in part (due (e .before .before .before .before .before .pre) (e .if1 .left))
+pass-over-requires c κs = let e = c .before .before in part (due (e .before .before .before .before .before .pre) (e .if1 .left))
 
 same-length : tie.Need-same-length
 same-length c = search needs
@@ -30,10 +39,13 @@ pub evaluate-above-spec : {M : Type 1} → statement M
 evaluate-above-spec =
     tie.close
     (tie.spec
+    mul-begin
     mul-link
-    mul-link-2
     shared-slice-read-link
     returns
+    add-pass-over
+    mul-pass-over
+    shared-slice-read-pass-over
     pass-over-requires
     same-length
     returns-2)

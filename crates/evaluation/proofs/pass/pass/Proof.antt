@@ -4,29 +4,25 @@ use Prim.Native.Nat.{_-_}
 use native.Mathlib.Omega.{arith}
 use borrow.Author.Needs.{needs}
 use lib.ListN.{length, length-set}
-use Rattle.evaluation.specs.Problem.{problem}
-use Rattle.evaluation.specs.laws.Passing.{passed-few, passed-long, Going, going-start, going-marks, going-few, going-room, going-long, going-evaluable, going-more, going-end}
+use Rattle.evaluation.specs.inner.Readers.{Asked}
+use Rattle.evaluation.specs.laws.Passing.{passed-few, passed-long, Going, going-start, going-marks, going-few, going-room, going-long, going-evaluable, going-more, going-end, asked-most}
 use Rattle.evaluation.proofs.pass.pass.Statement.{statement}
 use Rattle.evaluation.proofs.pass.pass.Tie as tie
 
 abbrev Inv-loop : tie.InvT-loop
-Inv-loop bytes values₀ marks₀ v first all n count₀ i₀ values marks count i = (n ≡ problem bytes .nodes) × (length marks ≡ length marks₀) × Going bytes values₀ v i values marks count all
+Inv-loop bytes values₀ marks₀ v first end all count₀ i₀ values marks count i = Asked bytes values₀ v first end all × (length marks ≡ length marks₀) × Going bytes values₀ v i values marks count all
 
 abbrev μ-loop : tie.MeasureT-loop
-μ-loop bytes values₀ marks₀ v first all n count₀ i₀ values marks count i = n - i
+μ-loop bytes values₀ marks₀ v first end all count₀ i₀ values marks count i = end - i
 
 slice-write-marks : tie.Need-slice-write-marks Inv-loop μ-loop
 slice-write-marks c = let p = c .before .before .before .pre in going-marks (p .0) (p .1)
 
-node-count-requires : tie.Need-node-count-requires Inv-loop μ-loop
-node-count-requires c κs = search needs
-
 loop-holds : tie.Need-loop-holds Inv-loop μ-loop
-unfolding problem
-loop-holds c = let p = c .before .before .before .before .pre in (c .node-count .ensures, refl, going-start (p .0) (p .1))
+loop-holds c = let p = c .before .before .before .pre in (p .0, refl, going-start (p .0) (p .1))
 
 pass-node-requires : tie.Need-pass-node-requires Inv-loop μ-loop
-pass-node-requires c κs = let o = c .before .before .before .loop .inv in (going-evaluable (o .2) (omega (arith, o .0)), going-room (o .2))
+pass-node-requires c κs = let o = c .before .before .before .loop .inv in (going-evaluable (o .2) (omega (arith, asked-most (o .0))), going-room (o .2))
 
 add-count : tie.Need-add-count Inv-loop μ-loop
 add-count c = let p = c .before .before .before .before in
@@ -41,17 +37,17 @@ loop-less c = search needs
 loop-again : tie.Need-loop-again Inv-loop μ-loop
 loop-again c = let p = c .before .before .before .before in
     let o = p .before .before .before .before .loop .inv in
-    (o .0, passed-long (p .pass-node .ensures) ∙ o .1, going-more (o .2) (omega (arith, o .0)) (p .pass-node .ensures))
+    (o .0, passed-long (p .pass-node .ensures) ∙ o .1, going-more (o .2) (omega (arith, asked-most (o .0))) (p .pass-node .ensures))
 
 same-length : tie.Need-same-length Inv-loop μ-loop
 same-length c = going-long (c .before .loop .inv .2)
 
 same-length-2 : tie.Need-same-length-2 Inv-loop μ-loop
-same-length-2 c = let s = c .before .before .before .before .before .before in
+same-length-2 c = let s = c .before .before .before .before .before in
     c .before .loop .inv .1 ∙ length-set (s .args .marks .now) (s .args .v) 1
 
 returns : tie.Need-returns Inv-loop μ-loop
-returns c = let o = c .before .loop .inv in going-end (o .2) (omega (arith, o .0))
+returns c = let o = c .before .loop .inv in going-end (o .0) (o .2) (omega arith)
 
 pub pass-spec : {M : Type 1} → statement M
 pass-spec =
@@ -60,7 +56,6 @@ pass-spec =
     Inv-loop
     μ-loop
     slice-write-marks
-    node-count-requires
     loop-holds
     pass-node-requires
     add-count
