@@ -1,7 +1,7 @@
 //! 256 starts of a few moves each: one call for all of them beside a call for each.
 
 use crate::measure::{fastest_told, SIDES};
-use generate::families::{frame, products, start};
+use generate::families::{deep, frame, products, start};
 use generate::solved::Solved;
 use generate::Rng;
 use std::hint::black_box;
@@ -62,10 +62,16 @@ impl Work {
 
 pub fn table(rounds: usize) {
     println!(
-        "{:10} {:>5} {:>6}   {:>12} {:>12} {:>6}   {:>12} {:>12} {:>6}   {:>8}",
+        "{:11} {:>5} {:>6}   {:>12} {:>12} {:>6}   {:>12} {:>12} {:>6}   {:>8}",
         "family", "nodes", "moves", "ns/start", "by-itself", "gain", "plain", "by-itself", "gain", "to-plain"
     );
-    let families = [("few", products(2, 1, 8)), ("frame-30", frame(1, 30)), ("frame-162", frame(1, 162))];
+    let families = [
+        ("few", products(2, 1, 8)),
+        ("frame-30", frame(1, 30)),
+        ("products-19", products(2, 19, 32)),
+        ("deep-200", deep(3, 200)),
+        ("frame-162", frame(1, 162)),
+    ];
     for (name, solved) in families {
         for moves in [1, 3, 10, 100] {
             let work = Work::new(&solved, moves);
@@ -82,7 +88,7 @@ pub fn table(rounds: usize) {
             });
             let [library, single, plain, plain_single] = times.map(|time| time / MOST_STARTS as f64);
             println!(
-                "{name:10} {:>5} {:>6.1}   {library:>12.0} {single:>12.0} {:>6.2}   {plain:>12.0} {plain_single:>12.0} {:>6.2}   {:>8.2}",
+                "{name:11} {:>5} {:>6.1}   {library:>12.0} {single:>12.0} {:>6.2}   {plain:>12.0} {plain_single:>12.0} {:>6.2}   {:>8.2}",
                 work.nodes,
                 made as f64 / MOST_STARTS as f64,
                 single / library,
