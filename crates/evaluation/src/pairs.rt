@@ -1,7 +1,7 @@
 // Fixed bits: the pair of every node, filled in upward, node by node.
 ghost use mathlib.Core.Path.{_≡_};
 ghost use Rattle.evaluation.specs.Problem.{problem, pairAt};
-ghost use Rattle.evaluation.specs.inner.Evaluation.{Narrowed, derives, Fillable, pairsOf, Unfilled, Filled};
+ghost use Rattle.evaluation.specs.inner.Evaluation.{Narrowed, derives, Fillable, pairsOf, Unfilled, Fills};
 use crate::operands::held;
 use crate::operands::operator;
 use operators::Pair;
@@ -12,7 +12,7 @@ use problem::node_at;
 use problem::node_count;
 
 // The pair of an inner node, from its operands' pairs.
-fn inner_pair(bytes: &[u8], los: &[u64; 1024], his: &[u64; 1024], n: Node) -> Pair
+fn inner_pair(bytes: &[u8], los: &[u64], his: &[u64], n: Node) -> Pair
     requires { ⌜ Narrowed (now bytes) (now los) (now his) n ⌝ }
     ensures { λ r. ⌜ r ≡ derives (now (bytes .entry)) (now (los .entry)) (now (his .entry)) n ⌝ }
 {
@@ -26,7 +26,7 @@ fn inner_pair(bytes: &[u8], los: &[u64; 1024], his: &[u64; 1024], n: Node) -> Pa
 }
 
 // The pair of node i: a variable's and a constant's own, else what its operator has from its operands'.
-fn pair_at(bytes: &[u8], los: &[u64; 1024], his: &[u64; 1024], i: u16) -> Pair
+fn pair_at(bytes: &[u8], los: &[u64], his: &[u64], i: u16) -> Pair
     requires { ⌜ Fillable (now bytes) (now los) (now his) i ⌝ }
     ensures { λ r. ⌜ r ≡ pairAt (problem (now (bytes .entry))) (pairsOf (now (los .entry)) (now (his .entry))) i ⌝ }
 {
@@ -37,10 +37,10 @@ fn pair_at(bytes: &[u8], los: &[u64; 1024], his: &[u64; 1024], i: u16) -> Pair
     inner_pair(bytes, los, his, n)
 }
 
-// The pairs of all nodes, in ascending id.
-pub fn fill(bytes: &[u8], los: &mut [u64; 1024], his: &mut [u64; 1024])
+// The pairs of all nodes, in ascending id; what stands after them stays.
+pub fn fill(bytes: &[u8], los: &mut [u64], his: &mut [u64])
     requires { ⌜ Unfilled (now bytes) (now los) (now his) ⌝ }
-    ensures { λ r. ⌜ Filled (now (bytes .entry)) (now (los .exit)) (now (his .exit)) ⌝ }
+    ensures { λ r. ⌜ Fills (now (bytes .entry)) (now (los .entry)) (now (his .entry)) (now (los .exit)) (now (his .exit)) ⌝ }
 {
     let n = node_count(bytes);
     let mut i: u16 = 0;

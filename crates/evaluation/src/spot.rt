@@ -8,7 +8,7 @@ use picking::Spot;
 use picking::Three;
 use problem::Node;
 
-pub fn spot_of(bytes: &[u8], los: &[u64; 1024], his: &[u64; 1024], values: &[u64], n: Node) -> Spot
+pub fn spot_of(bytes: &[u8], los: &[u64], his: &[u64], values: &[u64], n: Node) -> Spot
     requires { ⌜ Spotted (now los) (now his) (now values) n ⌝ }
     ensures { λ r. ⌜ r ≡ spotIn (now (bytes .entry)) (now (los .entry)) (now (his .entry)) (now (values .entry)) n ⌝ }
 {

@@ -1,5 +1,5 @@
 -- What the loops of a walk, a move and a run take from the definitions, at places of the tape.
-use mathlib.Core.Path.{_≡_, refl, sym, ap, _∙_, subst}
+use mathlib.Core.Path.{_≡_, refl, sym, ap, ap₂, _∙_, subst}
 use mathlib.Core.List.{List, [], _∷_, _++_}
 use Prim.Native.Nat.{ℕ, zero, suc, _+_, _*_, _-_, _%_, _≤_, _<_}
 use native.Mathlib.Omega.{arith}
@@ -14,16 +14,17 @@ use Rattle.operators.specs.Table.{shapeOf}
 use Rattle.problem.specs.declared.layout.Node.{Node}
 use Rattle.problem.specs.Layout.{nodeAt, widthAt, rootAt}
 use Rattle.picking.specs.declared.spot.Spot.{Spot}
+use Rattle.picking.specs.declared.spot.Three.{Three}
 use Rattle.picking.specs.Spot.{at}
 use Rattle.evaluation.specs.Problem.{Prob, Pairs, problem, three, count, arg, Variable, spotOf, spot, pairs}
-use Rattle.evaluation.specs.laws.Positions.{past-three}
+use Rattle.evaluation.specs.laws.Positions.{three-same, past-three}
 use Rattle.evaluation.specs.Lists.{Lists, Lists.done, Lists.keep, Lists.skip}
 use Rattle.search.specs.Step.{Out, goes, Step}
 use Rattle.search.specs.Run.{End, sets, stuck, short, Walk, Walk.arrives, Walk.unserved, Walk.stops, Walk.onward, Unsatisfied, AllOne, Move, Move.no-word, Move.from-root}
 use Rattle.evaluation.specs.inner.Good.{Good}
 use Rattle.evaluation.specs.laws.Good.{good-of}
 use Rattle.evaluation.specs.laws.Nodes.{operand-node}
-use Rattle.evaluation.specs.laws.Pairs.{length-fillUp, pairs-ternary}
+use Rattle.evaluation.specs.laws.Pairs.{pairs-ternary}
 use Rattle.evaluation.specs.laws.Spot.{spot-fair}
 use Rattle.evaluation.specs.laws.Decide.{Stands, lists-find, lists-member}
 use Rattle.evaluation.specs.laws.Lists.{lists-unique}
@@ -53,22 +54,32 @@ inner-kind (suc zero) h = absurd (not-suc-le-zero h)
 inner-kind (suc (suc k)) h = omega arith
 
 module _ (s los his vs : List ℕ) (n : ℕ) where
-  spot-is : Filled s los his → spotIn s los his vs (nodeAt s n) ≡ spot (problem s) vs n
+  -- the node with its operands' pairs
+  abbrev seen : Three → Three → Spot
+  seen lo hi =
+      let S : Spot = spot (problem s) vs n in
+      record { kind = S .kind; width = S .width; low = S .low; widths = S .widths; los = lo; his = hi; current = S .current }
+
+  spot-is : Filled s los his → n < problem s .nodes → spotIn s los his vs (nodeAt s n) ≡ spot (problem s) vs n
   unfolding spotIn spotOf problem heldIn widthsIn widthAt three
-  spot-is f = ap (λ (w : Pairs). spotOf (problem s) w vs n) (f .all)
+  spot-is f l =
+      let inside : (i : ℕ) → i < count (problem s) n → arg (problem s) n i < problem s .nodes =
+      operand-node (problem s) (good-of s (f .accepted)) n l in
+      ap₂ seen
+      (three-same (count (problem s) n) _ _ (λ i h. f .lo (arg (problem s) n i) (inside i h)))
+      (three-same (count (problem s) n) _ _ (λ i h. f .hi (arg (problem s) n i) (inside i h)))
 
   module _ (W : Searching s los his vs) (l : n < problem s .nodes) where
     good : Good (problem s)
     good = good-of s (W .filled .accepted)
 
     pub spotted : Spotted los his vs (nodeAt s n)
-    unfolding problem pairs
+    unfolding problem
     spotted =
-        let long = length-fillUp (problem s) (problem s .nodes) in
         let below : OperandsBelow (nodeAt s n) (problem s .nodes) = λ i h. operand-node (problem s) good n l i h in
         record {
-          below-lo = λ i h. omega (arith, below i h, good .few, ap (λ (w : Pairs). length (w .los)) (W .filled .all), long .0);
-          below-hi = λ i h. omega (arith, below i h, good .few, ap (λ (w : Pairs). length (w .his)) (W .filled .all), long .1);
+          below-lo = λ i h. omega (arith, below i h, W .filled .room-lo);
+          below-hi = λ i h. omega (arith, below i h, W .filled .room-hi);
           below = λ i h. omega (arith, below i h, W .held .places);
         }
 
@@ -105,7 +116,7 @@ module _ {s vs tape : List ℕ} {from start made n t k steps : ℕ} (o : On s vs
   walk-arrives z = o .onto _ (arrives (rw e at z))
 
   pub stepping-in : {los his : List ℕ} {S : Spot} → Searching s los his vs → S ≡ spotIn s los his vs d → Stepping S t
-  stepping-in {los} {his} W q = rw (q, e, spot-is s los his vs n (W .filled)) (stepping s los his vs n W (o .node) t (o .aimed))
+  stepping-in {los} {his} W q = rw (q, e, spot-is s los his vs n (W .filled) (o .node)) (stepping s los his vs n W (o .node) t (o .aimed))
 
   module _ (x : d .kind ≡ 0 → ⊥) where
     no-variable : Variable (problem s) n → ⊥
@@ -119,7 +130,7 @@ module _ {s vs tape : List ℕ} {from start made n t k steps : ℕ} (o : On s vs
     module _ {los his : List ℕ} (W : Searching s los his vs) {S : Spot} (q : S ≡ spotIn s los his vs d) (i : ℕ) (found : Found)
         (st : Step S t (getD tape k 0) (getD tape (k + 1) 0) (outOf i found)) (h : k + 2 ≤ length tape) where
       made-step : {p : Out} → outOf i found ≡ p → Step (spot (problem s) vs n) t (getD (drop k tape) 0 0) (getD (drop k tape) 1 0) p
-      made-step z = rw (first-word tape k, second-word tape k, ← z, ← spot-is s los his vs n (W .filled), ← e, ← q) st
+      made-step z = rw (first-word tape k, second-word tape k, ← z, ← spot-is s los his vs n (W .filled) (o .node), ← e, ← q) st
 
       pub walk-stuck : found ≡ Nothing → Walk (problem s) vs from 1 (drop start tape) made (stuck (steps + 1) (drop (k + 2) tape))
       walk-stuck z =

@@ -28,9 +28,10 @@ use Rattle.search.specs.laws.Moves.{move-lands}
 use Rattle.search.specs.laws.Runs.{kept-after}
 use Rattle.evaluation.specs.inner.Evaluation.{Assigned, Filled}
 use Rattle.evaluation.specs.inner.Lists.{Count}
-use Rattle.evaluation.specs.inner.Readers.{Unindexed, Indexed}
+use Rattle.evaluation.specs.inner.Readers.{Indexed}
 use Rattle.evaluation.specs.laws.Decide.{lists-length}
 use Rattle.search.specs.inner.Run.{Searching, Drawing, Finishes, Finishes.sets-one, Finishes.sets-none, Turned, Searched, Lent}
+use Rattle.search.specs.inner.Batch.{Unprepared}
 use Rattle.search.proofs.Places.{no-more, some-left}
 
 -- where the loop of a run is: values that hold, with the problem's own index of readers, m moves and so many steps made, at
@@ -128,15 +129,27 @@ module _ {s los his slots start tape : List ℕ} {B : ℕ} {vs : List ℕ} {m st
             onto = λ out a x. o .onto out a (n .run-on out a x);
           }
 
--- ---- an index that is not built yet
+-- ---- the room for what is worked out of a problem
 
 all-zero : (n k : ℕ) → _≡_ {A = ℕ} (getD (replicate n 0) k 0) 0
 all-zero zero k = refl
 all-zero (suc n) zero = refl
 all-zero (suc n) (suc k) = all-zero n k
 
-pub unindexed : {s : List ℕ} (n : ℕ) → checked s ≡ Accepted → 4 * problem s .nodes ≤ n → Unindexed s (replicate n 0)
-unindexed n a h = record { accepted = a; room = rw (length-replicate {A = ℕ} n 0) h; none = all-zero n }
+long : (n : ℕ) → length (replicate {A = ℕ} n 0) ≡ n
+long n = length-replicate {A = ℕ} n 0
+
+-- arrays of zeros for at least as many nodes as there are
+pub unprepared :
+    {s : List ℕ} (n : ℕ)
+    → checked s ≡ Accepted
+    → problem s .nodes ≤ n
+    → Unprepared s (replicate n 0) (replicate n 0) (replicate (4 * n) 0)
+unprepared n a h =
+    record {
+      unfilled = record { accepted = a; room-lo = rw (long n) h; room-hi = rw (long n) h };
+      unindexed = record { accepted = a; room = rw (long (4 * n)) (omega arith); none = all-zero (4 * n) };
+    }
 
 -- ---- refusals of a call
 

@@ -4,15 +4,12 @@ ghost use Prim.Native.Nat.{_≤_};
 ghost use lib.Dec.{ltb};
 ghost use lib.ListN.{length};
 ghost use Rattle.problem.specs.Refusals.{_then_};
-ghost use Rattle.evaluation.specs.inner.Evaluation.{Filled};
 ghost use Rattle.search.specs.Batch.{sum, tapeFault, roomFault, batchRefusals, Starts, Batch};
-ghost use Rattle.search.specs.inner.Batch.{Prepared, Own, OneMore};
+ghost use Rattle.search.specs.inner.Batch.{Unprepared, Prepared, Own, OneMore};
 ghost use Rattle.search.specs.promises.Accepted.{Enough};
 use crate::answers::tell;
-use crate::roots::closed_root;
+use crate::prepare;
 use crate::run_one;
-use evaluation::fill;
-use evaluation::index_readers;
 use problem::Checked;
 use problem::check;
 use problem::line;
@@ -79,8 +76,8 @@ pub fn batch_refusal(
 // Start k: its run on its own places and the words of its stretch, and its answer in its own six places.
 fn start_at(
     bytes: &[u8],
-    los: &[u64; 1024],
-    his: &[u64; 1024],
+    los: &[u64],
+    his: &[u64],
     slots: &[u16],
     closed: bool,
     k: usize,
@@ -110,13 +107,12 @@ fn start_at(
     tell(answer, &mut answers[at..end]);
 }
 
-// Every start, in turn.
+// Every start, in turn; what they share is worked out once, in the room that is lent for it.
 fn starts_in_turn(
     bytes: &[u8],
-    los: &[u64; 1024],
-    his: &[u64; 1024],
-    slots: &[u16],
-    closed: bool,
+    los: &mut [u64],
+    his: &mut [u64],
+    slots: &mut [u16],
     starts: u64,
     values: &mut [u64],
     tape: &[u64],
@@ -124,9 +120,10 @@ fn starts_in_turn(
     budgets: &[u16],
     answers: &mut [u64],
 )
-    requires { ⌜ Prepared (now bytes) (now los) (now his) (now slots) closed × Enough (now bytes) starts (now values) (now tape) (now lengths) (now budgets) (now answers) ⌝ }
+    requires { ⌜ Unprepared (now bytes) (now los) (now his) (now slots) × Enough (now bytes) starts (now values) (now tape) (now lengths) (now budgets) (now answers) ⌝ }
     ensures { λ r. ⌜ Starts (now (bytes .entry)) starts (now (values .entry)) (now (tape .entry)) (now (lengths .entry)) (now (budgets .entry)) (now (answers .entry)) (now (values .exit)) (now (answers .exit)) ⌝ }
 {
+    let closed = prepare(bytes, los, his, slots);
     let most = starts as usize;
     let mut from: usize = 0;
     let mut k: usize = 0;
@@ -149,58 +146,7 @@ fn starts_in_turn(
     }
 }
 
-// Every start, with the index of readers, which is built once. 512 slots serve 128 nodes, as in a single run.
-fn starts_indexed(
-    bytes: &[u8],
-    los: &[u64; 1024],
-    his: &[u64; 1024],
-    starts: u64,
-    values: &mut [u64],
-    tape: &[u64],
-    lengths: &[u64],
-    budgets: &[u16],
-    answers: &mut [u64],
-)
-    requires { ⌜ Filled (now bytes) (now los) (now his) × Enough (now bytes) starts (now values) (now tape) (now lengths) (now budgets) (now answers) ⌝ }
-    ensures { λ r. ⌜ Starts (now (bytes .entry)) starts (now (values .entry)) (now (tape .entry)) (now (lengths .entry)) (now (budgets .entry)) (now (answers .entry)) (now (values .exit)) (now (answers .exit)) ⌝ }
-{
-    let closed = closed_root(bytes, los, his);
-    if node_count(bytes) <= 128 {
-        let mut slots = [0u16; 512];
-        index_readers(bytes, &mut slots);
-        starts_in_turn(
-            bytes,
-            los,
-            his,
-            &slots,
-            closed,
-            starts,
-            values,
-            tape,
-            lengths,
-            budgets,
-            answers,
-        );
-        return;
-    }
-    let mut slots = [0u16; 4096];
-    index_readers(bytes, &mut slots);
-    starts_in_turn(
-        bytes,
-        los,
-        his,
-        &slots,
-        closed,
-        starts,
-        values,
-        tape,
-        lengths,
-        budgets,
-        answers,
-    );
-}
-
-// All starts of a call that is not refused; the pairs are worked out once.
+// All starts of a call that is not refused. Few nodes have little room, as in a single run.
 pub fn run_starts(
     problem: &[u8],
     starts: u64,
@@ -213,13 +159,32 @@ pub fn run_starts(
     requires { ⌜ Enough (now problem) starts (now values) (now tape) (now lengths) (now budgets) (now answers) ⌝ }
     ensures { λ r. ⌜ Starts (now (problem .entry)) starts (now (values .entry)) (now (tape .entry)) (now (lengths .entry)) (now (budgets .entry)) (now (answers .entry)) (now (values .exit)) (now (answers .exit)) ⌝ }
 {
+    if node_count(problem) <= 128 {
+        let mut los = [0u64; 128];
+        let mut his = [0u64; 128];
+        let mut slots = [0u16; 512];
+        starts_in_turn(
+            problem,
+            &mut los,
+            &mut his,
+            &mut slots,
+            starts,
+            values,
+            tape,
+            lengths,
+            budgets,
+            answers,
+        );
+        return;
+    }
     let mut los = [0u64; 1024];
     let mut his = [0u64; 1024];
-    fill(problem, &mut los, &mut his);
-    starts_indexed(
+    let mut slots = [0u16; 4096];
+    starts_in_turn(
         problem,
-        &los,
-        &his,
+        &mut los,
+        &mut his,
+        &mut slots,
         starts,
         values,
         tape,

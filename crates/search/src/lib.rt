@@ -1,13 +1,12 @@
 // The run of document 01, an entry point: steps, moves, and whole runs.
 ghost use mathlib.Core.Path.{_≡_};
 ghost use Prim.Native.Nat.{_+_, _*_};
-ghost use Rattle.evaluation.specs.inner.Evaluation.{Filled};
 ghost use Rattle.evaluation.specs.inner.Readers.{Indexed};
 ghost use Rattle.search.specs.Run.{answer};
 ghost use Rattle.search.specs.Call.{refused, Called};
 ghost use Rattle.search.specs.Needed.{Needed};
 ghost use Rattle.search.specs.inner.Run.{Searching, Searched, Lent};
-ghost use Rattle.search.specs.inner.Batch.{Prepared};
+ghost use Rattle.search.specs.inner.Batch.{Unprepared, Prepared};
 
 mod answers;
 mod batches;
@@ -80,8 +79,8 @@ fn settled(moves: u64, steps: u64, words: u64, evaluated: u64, verdict: Verdict)
 // "All roots 1 (also R = 0): verdict model. Else, budget used up: verdict spent. Else make a move and repeat."
 fn search(
     bytes: &[u8],
-    los: &[u64; 1024],
-    his: &[u64; 1024],
+    los: &[u64],
+    his: &[u64],
     slots: &[u16],
     values: &mut [u64],
     tape: &[u64],
@@ -132,8 +131,8 @@ fn turned_away(refusal: Refusal) -> Answer
 // the search.
 pub(crate) fn run_one(
     bytes: &[u8],
-    los: &[u64; 1024],
-    his: &[u64; 1024],
+    los: &[u64],
+    his: &[u64],
     slots: &[u16],
     closed: bool,
     values: &mut [u64],
@@ -154,30 +153,36 @@ pub(crate) fn run_one(
     search(bytes, los, his, slots, values, tape, budget)
 }
 
-// A start with its index of readers. 512 slots serve 128 nodes: to clear 4,096 would cost short runs on few nodes.
-fn run_indexed(
+// What is worked out of an accepted problem once for all its starts: the pairs, the index of readers, and whether a root is fixed
+// at 0.
+pub(crate) fn prepare(bytes: &[u8], los: &mut [u64], his: &mut [u64], slots: &mut [u16]) -> bool
+    requires { ⌜ Unprepared (now bytes) (now los) (now his) (now slots) ⌝ }
+    ensures { λ r. ⌜ Prepared (now (bytes .entry)) (now (los .exit)) (now (his .exit)) (now (slots .exit)) r ⌝ }
+{
+    fill(bytes, los, his);
+    index_readers(bytes, slots);
+    closed_root(bytes, los, his)
+}
+
+// A start in the room that is lent for the pairs and the index of readers.
+fn run_within(
     bytes: &[u8],
-    los: &[u64; 1024],
-    his: &[u64; 1024],
+    los: &mut [u64],
+    his: &mut [u64],
+    slots: &mut [u16],
     values: &mut [u64],
     tape: &[u64],
     budget: u16,
 ) -> Answer
-    requires { ⌜ Filled (now bytes) (now los) (now his) × Lent (now bytes) (now values) ⌝ }
+    requires { ⌜ Unprepared (now bytes) (now los) (now his) (now slots) × Lent (now bytes) (now values) ⌝ }
     ensures { λ r. ⌜ Called (now (bytes .entry)) (now (values .entry)) (now (tape .entry)) budget (now (values .exit)) r ⌝ }
 {
-    let closed = closed_root(bytes, los, his);
-    if node_count(bytes) <= 128 {
-        let mut slots = [0u16; 512];
-        index_readers(bytes, &mut slots);
-        return run_one(bytes, los, his, &slots, closed, values, tape, budget);
-    }
-    let mut slots = [0u16; 4096];
-    index_readers(bytes, &mut slots);
-    run_one(bytes, los, his, &slots, closed, values, tape, budget)
+    let closed = prepare(bytes, los, his, slots);
+    run_one(bytes, los, his, slots, closed, values, tape, budget)
 }
 
-// A whole call: a refusal, which leaves every place as it was; or the run.
+// A whole call: a refusal, which leaves every place as it was; or the run. Few nodes have little room: to clear room for 1,024
+// would cost short runs.
 pub fn run(problem: &[u8], values: &mut [u64], tape: &[u64], budget: u16) -> Answer
     ensures { λ r. ⌜ Called (now (problem .entry)) (now (values .entry)) (now (tape .entry)) budget (now (values .exit)) r ⌝ }
 {
@@ -185,10 +190,32 @@ pub fn run(problem: &[u8], values: &mut [u64], tape: &[u64], budget: u16) -> Ans
     if let Checked::Refused(refusal) = found {
         return turned_away(refusal);
     }
+    if node_count(problem) <= 128 {
+        let mut los = [0u64; 128];
+        let mut his = [0u64; 128];
+        let mut slots = [0u16; 512];
+        return run_within(
+            problem,
+            &mut los,
+            &mut his,
+            &mut slots,
+            values,
+            tape,
+            budget,
+        );
+    }
     let mut los = [0u64; 1024];
     let mut his = [0u64; 1024];
-    fill(problem, &mut los, &mut his);
-    run_indexed(problem, &los, &his, values, tape, budget)
+    let mut slots = [0u16; 4096];
+    run_within(
+        problem,
+        &mut los,
+        &mut his,
+        &mut slots,
+        values,
+        tape,
+        budget,
+    )
 }
 
 // What a problem asks of a tape: H, the words for a budget, and what the problem check found.

@@ -32,8 +32,8 @@ pub(crate) enum Turn {
 // Down from a node whose target is 1, with the words from a place of the tape on.
 fn walk(
     bytes: &[u8],
-    los: &[u64; 1024],
-    his: &[u64; 1024],
+    los: &[u64],
+    his: &[u64],
     values: &[u64],
     tape: &[u64],
     from: u16,
@@ -72,8 +72,8 @@ fn walk(
 // "A move reads one word, modulo the number of unsatisfied root entries, to take one of them in file order; its target is 1."
 pub(crate) fn make_move(
     bytes: &[u8],
-    los: &[u64; 1024],
-    his: &[u64; 1024],
+    los: &[u64],
+    his: &[u64],
     values: &[u64],
     tape: &[u64],
     count: u64,
@@ -104,8 +104,8 @@ pub(crate) fn make_move(
 // A move and what follows: "the variable takes the target, all nodes are evaluated". Only nodes above it can change.
 pub(crate) fn finish_move(
     bytes: &[u8],
-    los: &[u64; 1024],
-    his: &[u64; 1024],
+    los: &[u64],
+    his: &[u64],
     slots: &[u16],
     values: &mut [u64],
     tape: &[u64],

@@ -10,7 +10,7 @@ use problem::root_at;
 use problem::root_count;
 
 // Whether a root is fixed at 0.
-pub(crate) fn closed_root(bytes: &[u8], los: &[u64; 1024], his: &[u64; 1024]) -> bool
+pub(crate) fn closed_root(bytes: &[u8], los: &[u64], his: &[u64]) -> bool
     requires { ⌜ Filled (now bytes) (now los) (now his) ⌝ }
     ensures { λ r. ⌜ Decides (ClosedRoot (problem (now (bytes .entry)))) r ⌝ }
 {

@@ -6,7 +6,7 @@ use lib.Dec.{ltb}
 use lib.ListN.{length, getD}
 use Rattle.operators.specs.declared.meaning.Op.{Op}
 use Rattle.operators.specs.Table.{kindOf, shapeOf}
-use Rattle.operators.specs.inner.Ready.{Ready, PairsReady}
+use Rattle.operators.specs.inner.Ready.{Ternary, Ready, PairsReady}
 use Rattle.operators.specs.declared.fixed.Pair.{Pair}
 use Rattle.operators.specs.Fixed.{pair, pairOf}
 use Rattle.problem.specs.declared.layout.Node.{Node}
@@ -17,7 +17,7 @@ use Rattle.picking.specs.declared.spot.Three.{Three}
 use Rattle.picking.specs.declared.spot.Spot.{Spot}
 use Rattle.picking.specs.Spot.{at}
 use Rattle.evaluation.specs.declared.operands.Widths.{Widths}
-use Rattle.evaluation.specs.Problem.{oneOf, three, problem, Pairs, noPairs, fillUp, pairs}
+use Rattle.evaluation.specs.Problem.{oneOf, three, problem, Pairs, fillUp, pairLo, pairHi}
 use Rattle.evaluation.specs.Values.{VariablesAgree}
 
 -- ---- operands.rt
@@ -99,21 +99,31 @@ pub record Narrowed (s los his : List ℕ) (n : Node) : Type 0 where
       PairsReady (operatorIn s n) (pair (heldIn los n .a) (heldIn his n .a)) (pair (heldIn los n .b) (heldIn his n .b))
       (pair (heldIn los n .c) (heldIn his n .c))
 
--- an accepted problem s, and its first i pairs in two lists of 1,024 places
+-- node i of an accepted problem s, and a place for each node in two lists, where the nodes below it have pairs of their widths
 pub record Fillable (s los his : List ℕ) (i : ℕ) : Type 0 where
   pub accepted : checked s ≡ Accepted
+  pub room-lo : problem s .nodes ≤ length los
+  pub room-hi : problem s .nodes ≤ length his
   pub inside : i < problem s .nodes
-  pub so-far : pairsOf los his ≡ fillUp (problem s) i noPairs
+  pub ternary : (n : ℕ) → n < i → Ternary (problem s .width n) (pair (getD los n 0) (getD his n 0))
 
--- an accepted problem, and two lists of 1,024 zeros
+-- an accepted problem, and a place for each node in two lists
 pub record Unfilled (s los his : List ℕ) : Type 0 where
   pub accepted : checked s ≡ Accepted
-  pub none : pairsOf los his ≡ noPairs
+  pub room-lo : problem s .nodes ≤ length los
+  pub room-hi : problem s .nodes ≤ length his
 
--- an accepted problem, and all its pairs
+-- the pairs of all nodes filled in, and every place after them as it was
+abbrev pub Fills : List ℕ → List ℕ → List ℕ → List ℕ → List ℕ → Type 0
+Fills s los his los′ his′ = pairsOf los′ his′ ≡ fillUp (problem s) (problem s .nodes) (pairsOf los his)
+
+-- an accepted problem, and all its pairs in the places of its nodes
 pub record Filled (s los his : List ℕ) : Type 0 where
   pub accepted : checked s ≡ Accepted
-  pub all : pairsOf los his ≡ pairs (problem s)
+  pub room-lo : problem s .nodes ≤ length los
+  pub room-hi : problem s .nodes ≤ length his
+  pub lo : (n : ℕ) → n < problem s .nodes → getD los n 0 ≡ pairLo (problem s) n
+  pub hi : (n : ℕ) → n < problem s .nodes → getD his n 0 ≡ pairHi (problem s) n
 
 -- ---- spot.rt
 

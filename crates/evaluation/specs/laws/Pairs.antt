@@ -35,74 +35,101 @@ pub length-zeros : length zeros ≡ 1024
 unfolding zeros
 length-zeros = length-replicate {A = ℕ} 1024 0
 
-module _ (P : Prob) where
-  -- both lists have 1,024 places
-  pub length-fillUp : (i : ℕ) → (length (fillUp P i noPairs .los) ≡ 1024) × (length (fillUp P i noPairs .his) ≡ 1024)
+-- there are places for the first k nodes
+abbrev pub Room : Pairs → ℕ → Type 0
+Room w k = (k ≤ length (w .los)) × (k ≤ length (w .his))
+
+module _ (P : Prob) (w : Pairs) where
+  -- both lists keep their lengths
+  pub length-fillUp : (i : ℕ) → (length (fillUp P i w .los) ≡ length (w .los)) × (length (fillUp P i w .his) ≡ length (w .his))
   unfolding fillUp
-  length-fillUp zero = (length-zeros, length-zeros)
+  length-fillUp zero = (refl, refl)
   length-fillUp (suc i) = simp length-set (length-fillUp i)
 
   -- no pair is filled in yet; one more is
-  pub fillUp-none : fillUp P 0 noPairs ≡ noPairs
+  pub fillUp-none : fillUp P 0 w ≡ w
   unfolding fillUp
   fillUp-none = refl
 
-  fillUp-suc : (i : ℕ) → fillUp P (suc i) noPairs ≡ store (fillUp P i noPairs) i (pairAt P (fillUp P i noPairs) i)
+  fillUp-suc : (i : ℕ) → fillUp P (suc i) w ≡ store (fillUp P i w) i (pairAt P (fillUp P i w) i)
   unfolding fillUp
   fillUp-suc i = refl
 
   -- one turn of a loop that holds the two lists
-  pub fillUp-step :
-      (i : ℕ) (w : Pairs) (p : Pair) → w ≡ fillUp P i noPairs → p ≡ pairAt P w i → store w i p ≡ fillUp P (i + 1) noPairs
-  fillUp-step i w p e h =
-      ap₂ (λ (w : Pairs) (p : Pair). store w i p) e (h ∙ ap (λ (w : Pairs). pairAt P w i) e) ∙ rw (add-one, fillUp-suc)
+  pub fillUp-step : (i : ℕ) (u : Pairs) (p : Pair) → u ≡ fillUp P i w → p ≡ pairAt P u i → store u i p ≡ fillUp P (i + 1) w
+  fillUp-step i u p e h =
+      ap₂ (λ (u : Pairs) (p : Pair). store u i p) e (h ∙ ap (λ (u : Pairs). pairAt P u i) e) ∙ rw (add-one, fillUp-suc)
 
   abbrev upTo : ℕ → Pairs
-  upTo i = fillUp P i noPairs
+  upTo i = fillUp P i w
 
   abbrev put : ℕ → Pair
-  put i = pairAt P (fillUp P i noPairs) i
+  put i = pairAt P (fillUp P i w) i
 
-  roomy : (n : ℕ) → n < 1024 → (n < length (upTo 0 .los)) × (n < length (upTo 0 .his))
-  roomy n l = let h = length-fillUp 0 in (rw (h .0) l, rw (h .1) l)
+  roomy : (n : ℕ) → Room w (suc n) → (n < length (upTo 0 .los)) × (n < length (upTo 0 .his))
+  roomy n l = let h = length-fillUp 0 in (rw (h .0) (l .0), rw (h .1) (l .1))
 
   -- a place below i holds the pair that its node had when it was filled in, and keeps it
-  pub fillUp-at : (i n : ℕ) → n < 1024 → n < i → pairIn (fillUp P i noPairs) n ≡ pairAt P (fillUp P n noPairs) n
+  pub fillUp-at : (i n : ℕ) → Room w (suc n) → n < i → pairIn (fillUp P i w) n ≡ pairAt P (fillUp P n w) n
   fillUp-at i n l h = up-at pair-store upTo put fillUp-suc i n (roomy n l) h
 
-  pub fillUp-kept : (i m n : ℕ) → n < 1024 → n < i → i ≤ m → pairIn (fillUp P m noPairs) n ≡ pairIn (fillUp P i noPairs) n
+  pub fillUp-kept : (i m n : ℕ) → Room w (suc n) → n < i → i ≤ m → pairIn (fillUp P m w) n ≡ pairIn (fillUp P i w) n
   fillUp-kept i m n l h k = up-kept pair-store upTo put fillUp-suc i m n (roomy n l) h k
 
-module _ (P : Prob) (g : Good P) where
+-- in lists with a place for every node
+module _ (P : Prob) (g : Good P) (w : Pairs) (r : Room w (P .nodes)) where
+  for : (n : ℕ) → n < P .nodes → Room w (suc n)
+  for n l = (omega (arith, r .0), omega (arith, r .1))
+
   -- every node's pair is what its operands' pairs make it
+  pub filled-fixed : (n : ℕ) → n < P .nodes → pairIn (fillUp P (P .nodes) w) n ≡ pairAt P (fillUp P (P .nodes) w) n
+  filled-fixed n h =
+      fillUp-at P w (P .nodes) n (for n h) h
+      ∙ pair-same P n (fillUp P n w) (fillUp P (P .nodes) w)
+      (λ i b. let k : arg P n i < n = g .node n h .below i b in sym (fillUp-kept P w n (P .nodes) (arg P n i) (for (arg P n i) (omega arith)) k (omega arith)))
+
+  -- as far as filling has come, pairs are of their nodes' widths
+  pub fillUp-ternary : (i : ℕ) → i ≤ P .nodes → (n : ℕ) → n < i → Ternary (P .width n) (pairIn (fillUp P i w) n)
+  fillUp-ternary zero h n k = absurd (not-suc-le-zero k)
+  fillUp-ternary (suc i) h n k =
+      elim (ℕ-discrete n i) [
+        | yes e ↦
+            rw (e, fillUp-at P w (suc i) i (for i h) (le-refl (suc i)))
+            (pair-ternary P g i h (fillUp P i w) (λ j b. fillUp-ternary i (omega arith) (arg P i j) (g .node i h .below j b)))
+        | no x ↦
+            rw (fillUp-kept P w i (suc i) n (for n (omega arith)) (omega arith) (omega arith)) (fillUp-ternary i (omega arith) n (omega arith))
+      ]
+
+-- so what the lists held before does not bear
+module _ (P : Prob) (g : Good P) (w u : Pairs) (r : Room w (P .nodes)) (q : Room u (P .nodes)) where
+  pub filled-same : (k n : ℕ) → n < k → n < P .nodes → pairIn (fillUp P (P .nodes) w) n ≡ pairIn (fillUp P (P .nodes) u) n
+  filled-same zero n h l = absurd (not-suc-le-zero h)
+  filled-same (suc k) n h l =
+      filled-fixed P g w r n l
+      ∙ pair-same P n (fillUp P (P .nodes) w) (fillUp P (P .nodes) u)
+      (λ i b. let a : arg P n i < n = g .node n l .below i b in filled-same k (arg P n i) (omega arith) (omega arith))
+      ∙ sym (filled-fixed P g u q n l)
+
+module _ (P : Prob) (g : Good P) where
+  pub zeros-room : Room noPairs (P .nodes)
+  zeros-room = (omega (arith, g .few, length-zeros), omega (arith, g .few, length-zeros))
+
   pub pairs-fixed : (n : ℕ) → n < P .nodes → pairIn (pairs P) n ≡ pairAt P (pairs P) n
   unfolding pairs
-  pairs-fixed n h =
-      let few = g .few in
-      fillUp-at P (P .nodes) n (omega arith) h
-      ∙ pair-same P n (fillUp P n noPairs) (fillUp P (P .nodes) noPairs)
-      (λ i b. let k : arg P n i < n = g .node n h .below i b in sym (fillUp-kept P n (P .nodes) (arg P n i) (omega arith) k (omega arith)))
+  pairs-fixed = filled-fixed P g noPairs zeros-room
+
+  -- lists with a place for every node hold the same pairs as those of 1,024 places
+  pub pairs-filled : (w : Pairs) → Room w (P .nodes) → (n : ℕ) → n < P .nodes → pairIn (fillUp P (P .nodes) w) n ≡ pairIn (pairs P) n
+  unfolding pairs
+  pairs-filled w r n l = filled-same P g w noPairs r zeros-room (P .nodes) n l l
 
   -- "Variables carry their pair in lo and hi; a constant has lo = hi"
   pub pairs-own : (n : ℕ) → n < P .nodes → P .kind n < 2 → pairIn (pairs P) n ≡ ownPair P n
   pairs-own n h k = pairs-fixed n h ∙ pair-own P n (pairs P) k
 
-  -- as far as filling has come, pairs are of their nodes' widths
-  pub fillUp-ternary : (i : ℕ) → i ≤ P .nodes → (n : ℕ) → n < i → Ternary (P .width n) (pairIn (fillUp P i noPairs) n)
-  fillUp-ternary zero h n k = absurd (not-suc-le-zero k)
-  fillUp-ternary (suc i) h n k =
-      let few = g .few in
-      elim (ℕ-discrete n i) [
-        | yes e ↦
-            rw (e, fillUp-at P (suc i) i (omega arith) (le-refl (suc i)))
-            (pair-ternary P g i h (fillUp P i noPairs) (λ j b. fillUp-ternary i (omega arith) (arg P i j) (g .node i h .below j b)))
-        | no x ↦
-            rw (fillUp-kept P i (suc i) n (omega arith) (omega arith) (omega arith)) (fillUp-ternary i (omega arith) n (omega arith))
-      ]
-
   pub pairs-ternary : (n : ℕ) → n < P .nodes → Ternary (P .width n) (pairIn (pairs P) n)
   unfolding pairs
-  pairs-ternary n h = fillUp-ternary (P .nodes) (le-refl (P .nodes)) n h
+  pairs-ternary n h = fillUp-ternary P g noPairs zeros-room (P .nodes) (le-refl (P .nodes)) n h
 
   module _ (vs : List ℕ) (ev : Evaluated P vs) (va : VariablesAgree P vs) where
     agree-below : (k n : ℕ) → n < k → n < P .nodes → Agreeing (pairIn (pairs P) n) (getD vs n 0)

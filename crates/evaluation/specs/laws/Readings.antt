@@ -11,6 +11,7 @@ use borrow.Author.Tests.{ltb-true}
 use Rattle.operators.specs.Table.{kindCount, kinds, kindOf, shape, shapeOf}
 use Rattle.operators.specs.Meaning.{meaning}
 use Rattle.operators.specs.laws.Meaning.{fit-used, meaning-known}
+use Rattle.operators.specs.declared.fixed.Pair.{Pair}
 use Rattle.operators.specs.Fixed.{pair}
 use Rattle.operators.specs.inner.Ready.{Ternary}
 use Rattle.problem.specs.declared.layout.Node.{Node}
@@ -20,15 +21,15 @@ use Rattle.problem.specs.Layout.{nodeAt, widthAt, rootAt}
 use Rattle.problem.specs.declared.Checked.the-variants.{Accepted}
 use Rattle.problem.specs.Refusals.{checked}
 use Rattle.problem.specs.laws.Facts.{accepted-facts, node-inside}
-use Rattle.evaluation.specs.Problem.{Prob, Pairs, three, problem, count, arg, spotOf, valueOf, evalUp, evaluate, pairAt, fillUp, noPairs, pairs, pairHi}
+use Rattle.evaluation.specs.Problem.{Prob, Pairs, three, problem, count, arg, spotOf, valueOf, evalUp, evaluate, pairAt, fillUp, pairs, pairHi}
 use Rattle.picking.specs.laws.Positions.{every-kind, few-positions}
 use Rattle.evaluation.specs.laws.Positions.{at-three}
 use Rattle.evaluation.specs.inner.Good.{Good, GoodNode}
 use Rattle.evaluation.specs.laws.Values.{length-evalUp, evalUp-lt}
 use Rattle.evaluation.specs.laws.Nodes.{value-own, value-constant, value-operator, pair-own, pair-operator, pairIn}
-use Rattle.evaluation.specs.laws.Pairs.{length-fillUp, fillUp-ternary}
+use Rattle.evaluation.specs.laws.Pairs.{Room, length-fillUp, fillUp-ternary, pairs-filled}
 use Rattle.evaluation.specs.laws.Spot.{spot-pairs-ready}
-use Rattle.evaluation.specs.inner.Evaluation.{ids, OperandsBelow, heldIn, widthsIn, operatorIn, Readable, standingOp, Standing, Evaluable, Assigned, pairsOf, derives, Narrowed, Fillable, Filled}
+use Rattle.evaluation.specs.inner.Evaluation.{ids, OperandsBelow, heldIn, widthsIn, operatorIn, Readable, standingOp, Standing, Evaluable, Assigned, pairsOf, derives, Narrowed, Fillable, Unfilled, Fills, Filled}
 use Rattle.evaluation.specs.laws.Good.{good-of}
 
 -- a position that the code's test finds there
@@ -167,25 +168,62 @@ module _ (s los his : List ℕ) (i : ℕ) where
       let P : Prob = problem s in
       let g : Good P = good-of s (f .accepted) in
       let here : GoodNode P i = g .node i (f .inside) in
-      let long = length-fillUp P i in
-      let ternary : (j : ℕ) → j < count P i → Ternary (P .width (arg P i j)) (pairIn both (arg P i j)) =
-      λ j b.
-      subst (λ (w : Pairs). Ternary (P .width (arg P i j)) (pairIn w (arg P i j))) (sym (f .so-far))
-      (fillUp-ternary P g i (omega (arith, f .inside)) (arg P i j) (here .below j b)) in
       record {
-        below-lo = λ j h. omega (arith, here .below j h, f .inside, g .few, ap (λ (w : Pairs). length (w .los)) (f .so-far), long .0);
-        below-hi = λ j h. omega (arith, here .below j h, f .inside, g .few, ap (λ (w : Pairs). length (w .his)) (f .so-far), long .1);
-        ready = spot-pairs-ready P g i (f .inside) k both [] ternary;
+        below-lo = λ j h. omega (arith, here .below j h, f .inside, f .room-lo);
+        below-hi = λ j h. omega (arith, here .below j h, f .inside, f .room-hi);
+        ready = spot-pairs-ready P g i (f .inside) k both [] (λ j b. f .ternary (arg P i j) (here .below j b));
       }
 
+-- the pairs of all nodes are filled in, over what the lists held before
 pub filled-all :
-    (s los his : List ℕ) (i : ℕ)
-    → checked s ≡ Accepted
+    (s los his los′ his′ : List ℕ) (i : ℕ)
     → i ≡ problem s .nodes
-    → pairsOf los his ≡ fillUp (problem s) i noPairs
-    → Filled s los his
-unfolding pairs
-filled-all s los his i a n e = record { accepted = a; all = rw n at e }
+    → pairsOf los′ his′ ≡ fillUp (problem s) i (pairsOf los his)
+    → Fills s los his los′ his′
+filled-all s los his los′ his′ i n e = rw n at e
+
+module _ (s los his : List ℕ) (u : Unfilled s los his) where
+  abbrev before : Pairs
+  before = pairsOf los his
+
+  room : Room before (problem s .nodes)
+  room = (u .room-lo, u .room-hi)
+
+  good : Good (problem s)
+  good = good-of s (u .accepted)
+
+  -- those of the first i nodes are
+  pub fillable :
+      (los′ his′ : List ℕ) (i : ℕ)
+      → pairsOf los′ his′ ≡ fillUp (problem s) i (pairsOf los his)
+      → i < problem s .nodes
+      → Fillable s los′ his′ i
+  fillable los′ his′ i e l =
+      let long = length-fillUp (problem s) before i in
+      record {
+        accepted = u .accepted;
+        room-lo = omega (arith, u .room-lo, ap (λ (w : Pairs). length (w .los)) e, long .0);
+        room-hi = omega (arith, u .room-hi, ap (λ (w : Pairs). length (w .his)) e, long .1);
+        inside = l;
+        ternary =
+            λ n h.
+            subst (λ (w : Pairs). Ternary (problem s .width n) (pairIn w n)) (sym e)
+            (fillUp-ternary (problem s) good before room i (omega arith) n h);
+      }
+
+  -- those of all nodes are, and are the problem's
+  pub filled : {los′ his′ : List ℕ} → Fills s los his los′ his′ → Filled s los′ his′
+  filled {los′} {his′} e =
+      let long = length-fillUp (problem s) before (problem s .nodes) in
+      let same : (n : ℕ) → n < problem s .nodes → pairIn (pairsOf los′ his′) n ≡ pairIn (pairs (problem s)) n =
+      λ n l. ap (λ (w : Pairs). pairIn w n) e ∙ pairs-filled (problem s) good before room n l in
+      record {
+        accepted = u .accepted;
+        room-lo = omega (arith, u .room-lo, ap (λ (w : Pairs). length (w .los)) e, long .0);
+        room-hi = omega (arith, u .room-hi, ap (λ (w : Pairs). length (w .his)) e, long .1);
+        lo = λ n l. ap (λ (p : Pair). p .lo) (same n l);
+        hi = λ n l. ap (λ (p : Pair). p .hi) (same n l);
+      }
 
 -- ---- roots
 
@@ -194,9 +232,13 @@ unfolding problem
 root-inside s j a h = good-of s a .root-below j h
 
 pub root-hi :
-    (s los his : List ℕ) (j r : ℕ) → Filled s los his → r ≡ rootAt s j → getD his r 0 ≡ pairHi (problem s) (problem s .root j)
+    (s los his : List ℕ) (j r : ℕ)
+    → Filled s los his
+    → j < problem s .entries
+    → r ≡ rootAt s j
+    → getD his r 0 ≡ pairHi (problem s) (problem s .root j)
 unfolding problem
-root-hi s los his j r f e = ap (λ (w : Pairs). getD (w .his) r 0) (f .all) ∙ ap (pairHi (problem s)) e
+root-hi s los his j r f l e = ap (λ (m : ℕ). getD his m 0) e ∙ f .hi (rootAt s j) (root-inside s j (f .accepted) l)
 
 -- the 24 bytes of node i are there
 pub node-there : (s : List ℕ) (i : ℕ) → checked s ≡ Accepted → i < problem s .nodes → 9 + 24 * i + 24 ≤ length s

@@ -8,7 +8,7 @@ use Rattle.picking.specs.declared.spot.Spot.{Spot}
 use Rattle.picking.specs.Spot.{at}
 use Rattle.evaluation.specs.Problem.{problem, Pairs, evaluate}
 use Rattle.evaluation.specs.Readers.{Chain, Above}
-use Rattle.evaluation.specs.inner.Evaluation.{ids, Filled, spotIn}
+use Rattle.evaluation.specs.inner.Evaluation.{ids, Fills, spotIn}
 use Rattle.evaluation.specs.inner.Readers.{Indexed, Renewal}
 use Rattle.evaluation.specs.laws.Chains.{chain-unique}
 use Rattle.evaluation.specs.laws.Lists.{lists-unique, count-unique}
@@ -25,9 +25,12 @@ pub evaluate-determined :
 evaluate-determined s before after after′ = equal
 
 pub fill-determined :
-    (s los his los′ his′ : List ℕ) → Filled s los his → Filled s los′ his′ → (los ≡ los′) × (his ≡ his′)
-fill-determined s los his los′ his′ f f′ =
-    let e = f .all ∙ sym (f′ .all) in (ap (λ (w : Pairs). w .los) e, ap (λ (w : Pairs). w .his) e)
+    (s los his los′ his′ los″ his″ : List ℕ)
+    → Fills s los his los′ his′
+    → Fills s los his los″ his″
+    → (los′ ≡ los″) × (his′ ≡ his″)
+fill-determined s los his los′ his′ los″ his″ f g =
+    let e = equal f g in (ap (λ (w : Pairs). w .los) e, ap (λ (w : Pairs). w .his) e)
 
 pub spot-of-determined :
     (s los his vs : List ℕ) (n : Node) (r t : Spot) → r ≡ spotIn s los his vs n → t ≡ spotIn s los his vs n → r ≡ t

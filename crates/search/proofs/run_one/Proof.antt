@@ -23,13 +23,13 @@ same-length : tie.Need-same-length
 same-length c = search needs
 
 returns : tie.Need-returns
-returns c = rw (c .turned-away .ensures) (refuses _ (refusals-lent (c .before .before .before .before .before .before .before .before .before .before .pre .1) ∙ sym (c .before .before .before .before .starts-fault .ensures) ∙ c .before .before .found .given .1))
+returns c = rw (c .turned-away .ensures) (refuses _ (refusals-lent (c .before .before .before .before .before .before .before .before .before .before .before .before .pre .1) ∙ sym (c .before .before .before .before .starts-fault .ensures) ∙ c .before .before .found .given .1))
 
 enum-told : tie.Need-enum-told
 enum-told c = search needs
 
 evaluate-requires : tie.Need-evaluate-requires
-evaluate-requires c κs = begun _ _ (refusals-lent (c .before .before .before .before .before .before .before .before .before .pre .1) ∙ sym (c .before .before .before .starts-fault .ensures) ∙ c .before .enum-told .given .1)
+evaluate-requires c κs = begun _ _ (refusals-lent (c .before .before .before .before .before .before .before .before .before .before .before .pre .1) ∙ sym (c .before .before .before .starts-fault .ensures) ∙ c .before .enum-told .given .1)
 
 node-count-requires : tie.Need-node-count-requires
 node-count-requires c κs = search needs
@@ -45,16 +45,16 @@ same-length-2 c = search needs
 
 returns-2 : tie.Need-returns-2
 unfolding problem
-returns-2 c = rw (c .before .before .before .before .before .evaluate .ensures, c .settled .ensures, c .before .node-count .ensures) (runs (refusals-lent (c .before .before .before .before .before .before .before .before .before .before .before .before .before .before .before .pre .1) ∙ sym (c .before .before .before .before .before .before .before .before .before .starts-fault .ensures) ∙ c .before .before .before .before .before .before .before .enum-told .given .1) (closed (decides-yes _ _ (c .before .before .before .before .before .before .before .before .before .before .before .before .before .before .before .pre .0 .decided) (c .before .before .if1 .taken))))
+returns-2 c = rw (c .before .before .before .before .before .evaluate .ensures, c .settled .ensures, c .before .node-count .ensures) (runs (refusals-lent (c .before .before .before .before .before .before .before .before .before .before .before .before .before .before .before .before .before .pre .1) ∙ sym (c .before .before .before .before .before .before .before .before .before .starts-fault .ensures) ∙ c .before .before .before .before .before .before .before .enum-told .given .1) (closed (decides-yes _ _ (c .before .before .before .before .before .before .before .before .before .before .before .before .before .before .before .before .before .pre .0 .decided) (c .before .before .if1 .taken))))
 
 search-requires : tie.Need-search-requires
-search-requires c κs = (begins _ _ (refusals-lent (c .before .before .before .before .before .before .before .before .before .before .before .before .before .before .pre .1) ∙ sym (c .before .before .before .before .before .before .before .before .starts-fault .ensures) ∙ c .before .before .before .before .before .before .enum-told .given .1) (c .before .before .before .before .before .before .before .before .before .before .before .before .before .before .pre .0 .filled) (decides-no _ _ (c .before .before .before .before .before .before .before .before .before .before .before .before .before .before .pre .0 .decided) (c .before .if1 .left)) (c .before .before .before .before .evaluate .ensures), c .before .before .before .before .before .before .before .before .before .before .before .before .before .before .pre .0 .indexed)
+search-requires c κs = (begins _ _ (refusals-lent (c .before .before .before .before .before .before .before .before .before .before .before .before .before .before .before .before .pre .1) ∙ sym (c .before .before .before .before .before .before .before .before .starts-fault .ensures) ∙ c .before .before .before .before .before .before .enum-told .given .1) (c .before .before .before .before .before .before .before .before .before .before .before .before .before .before .before .before .pre .0 .filled) (decides-no _ _ (c .before .before .before .before .before .before .before .before .before .before .before .before .before .before .before .before .pre .0 .decided) (c .before .if1 .left)) (c .before .before .before .before .evaluate .ensures), c .before .before .before .before .before .before .before .before .before .before .before .before .before .before .before .before .pre .0 .indexed)
 
 same-length-3 : tie.Need-same-length-3
 same-length-3 c = search needs
 
 returns-3 : tie.Need-returns-3
-returns-3 c = runs (refusals-lent (c .before .before .before .before .before .before .before .before .before .before .before .before .before .before .before .before .before .pre .1) ∙ sym (c .before .before .before .before .before .before .before .before .before .before .before .starts-fault .ensures) ∙ c .before .before .before .before .before .before .before .before .before .enum-told .given .1) (searched (decides-no _ _ (c .before .before .before .before .before .before .before .before .before .before .before .before .before .before .before .before .before .pre .0 .decided) (c .before .before .before .before .if1 .left)) (rw (c .before .before .before .before .before .before .before .evaluate .ensures) at (c .before .before .search .ensures)))
+returns-3 c = runs (refusals-lent (c .before .before .before .before .before .before .before .before .before .before .before .before .before .before .before .before .before .before .before .pre .1) ∙ sym (c .before .before .before .before .before .before .before .before .before .before .before .starts-fault .ensures) ∙ c .before .before .before .before .before .before .before .before .before .enum-told .given .1) (searched (decides-no _ _ (c .before .before .before .before .before .before .before .before .before .before .before .before .before .before .before .before .before .before .before .pre .0 .decided) (c .before .before .before .before .if1 .left)) (rw (c .before .before .before .before .before .before .before .evaluate .ensures) at (c .before .before .search .ensures)))
 
 pub run-one-spec : {M : Type 1} → statement M
 run-one-spec =

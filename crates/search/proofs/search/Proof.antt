@@ -23,7 +23,7 @@ cast-evaluated c = search needs
 
 loop-holds : tie.Need-loop-holds Inv-loop μ-loop
 unfolding problem
-loop-holds c = let p = c .before .before .before .before .before .pre in going-start (p .0) (p .1) (c .node-count .ensures)
+loop-holds c = let p = c .before .before .before .before .before .before .before .pre in going-start (p .0) (p .1) (c .node-count .ensures)
 
 count-unsatisfied-requires : tie.Need-count-unsatisfied-requires Inv-loop μ-loop
 count-unsatisfied-requires c κs = let w = c .before .loop .inv .searching in record { accepted = w .filled .accepted; held = w .held }
@@ -47,7 +47,7 @@ returns-2 : tie.Need-returns-2 Inv-loop μ-loop
 returns-2 c = rw (c .settled2 .ensures) (going-spent (c .before .before .before .before .before .loop .inv) (c .before .before .before .count-unsatisfied .ensures) (omega (arith, c .before .before .if1 .left)) (c .before .if2 .taken))
 
 add-more : tie.Need-add-more Inv-loop μ-loop
-add-more c = omega (arith, c .if2 .left, c .before .before .before .before .before .before .before .before .before .before .fits .budget)
+add-more c = omega (arith, c .if2 .left, c .before .before .before .before .before .before .before .before .before .before .before .before .fits .budget)
 
 finish-move-requires : tie.Need-finish-move-requires Inv-loop μ-loop
 finish-move-requires c κs = (going-draws (c .before .before .before .before .before .loop .inv) (c .before .before .before .count-unsatisfied .ensures) (omega (arith, c .before .before .if1 .left)), c .before .before .before .before .before .loop .inv .indexed)
@@ -70,7 +70,7 @@ returns-3 c = let f = rw (c .before .enum-told .given .1) at (c .before .before 
 
 add-evaluated : tie.Need-add-evaluated Inv-loop μ-loop
 add-evaluated c = let f = rw (c .before .turn .given .1) at (c .before .before .before .before .before .finish-move .ensures) in
-    omega (arith, going-fits (c .before .before .before .before .before .before .before .before .before .before .before .loop .inv) (c .before .before .before .before .before .before .before .before .before .count-unsatisfied .ensures) (omega (arith, c .before .before .before .before .before .before .before .before .if1 .left)) (omega (arith, c .before .before .before .before .before .before .before .if2 .left)) f (c .before .before .before .before .before .before .before .before .before .before .before .before .before .before .before .before .before .fits .budget .fits))
+    omega (arith, going-fits (c .before .before .before .before .before .before .before .before .before .before .before .loop .inv) (c .before .before .before .before .before .before .before .before .before .count-unsatisfied .ensures) (omega (arith, c .before .before .before .before .before .before .before .before .if1 .left)) (omega (arith, c .before .before .before .before .before .before .before .if2 .left)) f (c .before .before .before .before .before .before .before .before .before .before .before .before .before .before .before .before .before .before .before .fits .budget .fits))
 
 loop-less : tie.Need-loop-less Inv-loop μ-loop
 loop-less c = omega (arith, c .before .before .before .before .before .before .before .if2 .left)

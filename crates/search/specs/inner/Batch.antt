@@ -16,14 +16,19 @@ use Rattle.search.specs.Run.{ClosedRoot}
 use Rattle.search.specs.Call.{Called}
 use Rattle.search.specs.Batch.{sum, places, Starts}
 use Rattle.search.specs.laws.Parts.{laid}
-use Rattle.evaluation.specs.inner.Evaluation.{Filled}
-use Rattle.evaluation.specs.inner.Readers.{Indexed}
+use Rattle.evaluation.specs.inner.Evaluation.{Unfilled, Filled}
+use Rattle.evaluation.specs.inner.Readers.{Unindexed, Indexed}
 
 -- what is worked out of an accepted problem once for all starts: the pairs, the index of readers, and whether a root is fixed at 0
 pub record Prepared (s los his slots : List ℕ) (closed : Bool) : Type 0 where
   pub filled : Filled s los his
   pub indexed : Indexed s slots
   pub decided : Decides (ClosedRoot (problem s)) closed
+
+-- the room for that: a place for each node in two lists, and four zeros for each node in a third
+pub record Unprepared (s los his slots : List ℕ) : Type 0 where
+  pub unfilled : Unfilled s los his
+  pub unindexed : Unindexed s slots
 
 -- start k's places, and those of its answer
 pub record Own (s : List ℕ) (k : ℕ) (values answers : List ℕ) : Type 0 where

@@ -1,18 +1,18 @@
 -- `search::pairs::fill` meets its contract.
-use mathlib.Core.Path.{_≡_, sym, _∙_}
+use mathlib.Core.Path.{_≡_, sym, ap, _∙_}
 use Prim.Native.Nat.{_≤_, _-_}
 use native.Mathlib.Omega.{arith}
+use lib.ListN.{length}
 use borrow.Author.Needs.{needs}
-use Rattle.evaluation.specs.Problem.{problem, fillUp, noPairs}
-use Rattle.evaluation.specs.laws.Pairs.{fillUp-none, fillUp-step}
+use Rattle.evaluation.specs.Problem.{problem, Pairs, fillUp}
+use Rattle.evaluation.specs.laws.Pairs.{length-fillUp, fillUp-none, fillUp-step}
 use Rattle.evaluation.specs.inner.Evaluation.{pairsOf}
-use Rattle.evaluation.specs.laws.Readings.{filled-all}
-use Rattle.evaluation.specs.laws.Good.{good-of}
+use Rattle.evaluation.specs.laws.Readings.{fillable, filled-all}
 use Rattle.evaluation.proofs.pairs.fill.Statement.{statement}
 use Rattle.evaluation.proofs.pairs.fill.Tie as tie
 
 abbrev Inv-loop : tie.InvT-loop
-Inv-loop bytes los₀ his₀ n i₀ los his i = (n ≡ problem bytes .nodes) × (i ≤ n) × (pairsOf los his ≡ fillUp (problem bytes) i noPairs)
+Inv-loop bytes los₀ his₀ n i₀ los his i = (n ≡ problem bytes .nodes) × (i ≤ n) × (pairsOf los his ≡ fillUp (problem bytes) i (pairsOf los₀ his₀))
 
 abbrev μ-loop : tie.MeasureT-loop
 μ-loop bytes los₀ his₀ n i₀ los his i = n - i
@@ -22,10 +22,10 @@ node-count-requires c κs = search needs
 
 loop-holds : tie.Need-loop-holds Inv-loop μ-loop
 unfolding problem
-loop-holds c = (c .node-count .ensures, omega arith, c .before .before .pre .none ∙ sym (fillUp-none _))
+loop-holds c = (c .node-count .ensures, omega arith, sym (fillUp-none _ _))
 
 pair-at-requires : tie.Need-pair-at-requires Inv-loop μ-loop
-pair-at-requires c κs = record { accepted = c .before .before .before .before .before .before .pre .accepted; inside = omega arith; so-far = c .before .before .before .loop .inv .2 }
+pair-at-requires c κs = fillable _ _ _ (c .before .before .before .before .before .before .before .before .pre) _ _ _ (c .before .before .before .loop .inv .2) (omega arith)
 
 cast-los : tie.Need-cast-los Inv-loop μ-loop
 cast-los c = search needs
@@ -33,8 +33,9 @@ cast-los c = search needs
 mul-los : tie.Need-mul-los Inv-loop μ-loop
 mul-los c = search needs
 
-element-write-los : tie.Need-element-write-los Inv-loop μ-loop
-element-write-los c = omega (arith, good-of _ (c .before .before .before .before .before .before .before .pre .accepted) .few)
+slice-write-los : tie.Need-slice-write-los Inv-loop μ-loop
+slice-write-los c = let f = fillable _ _ _ (c .before .before .before .before .before .before .before .before .before .pre) _ _ _ (c .before .before .before .before .loop .inv .2) (omega arith) in
+    omega (arith, f .inside, f .room-lo)
 
 cast-his : tie.Need-cast-his Inv-loop μ-loop
 cast-his c = search needs
@@ -42,8 +43,9 @@ cast-his c = search needs
 mul-his : tie.Need-mul-his Inv-loop μ-loop
 mul-his c = search needs
 
-element-write-his : tie.Need-element-write-his Inv-loop μ-loop
-element-write-his c = omega (arith, good-of _ (c .before .before .before .before .before .before .before .pre .accepted) .few)
+slice-write-his : tie.Need-slice-write-his Inv-loop μ-loop
+slice-write-his c = let f = fillable _ _ _ (c .before .before .before .before .before .before .before .before .before .pre) _ _ _ (c .before .before .before .before .loop .inv .2) (omega arith) in
+    omega (arith, f .inside, f .room-hi)
 
 add-i : tie.Need-add-i Inv-loop μ-loop
 add-i c = search needs
@@ -55,11 +57,17 @@ loop-again : tie.Need-loop-again Inv-loop μ-loop
 loop-again c = (
   c .before .before .before .before .loop .inv .0,
   omega arith,
-  fillUp-step _ _ _ _ (c .before .before .before .before .loop .inv .2) (c .pair-at .ensures),
+  fillUp-step _ _ _ _ _ (c .before .before .before .before .loop .inv .2) (c .pair-at .ensures),
 )
 
+same-length : tie.Need-same-length Inv-loop μ-loop
+same-length c = ap (λ (w : Pairs). length (w .los)) (c .before .loop .inv .2) ∙ length-fillUp _ _ _ .0
+
+same-length-2 : tie.Need-same-length-2 Inv-loop μ-loop
+same-length-2 c = ap (λ (w : Pairs). length (w .his)) (c .before .loop .inv .2) ∙ length-fillUp _ _ _ .1
+
 returns : tie.Need-returns Inv-loop μ-loop
-returns c = filled-all _ _ _ _ (c .before .before .before .before .pre .accepted) (omega arith) (c .before .loop .inv .2)
+returns c = filled-all _ _ _ _ _ _ (omega arith) (c .before .loop .inv .2)
 
 pub fill-spec : {M : Type 1} → statement M
 fill-spec =
@@ -72,11 +80,13 @@ fill-spec =
     pair-at-requires
     cast-los
     mul-los
-    element-write-los
+    slice-write-los
     cast-his
     mul-his
-    element-write-his
+    slice-write-his
     add-i
     loop-less
     loop-again
+    same-length
+    same-length-2
     returns)

@@ -17,12 +17,12 @@ operator-requires : tie.Need-operator-requires
 operator-requires c κs = search needs
 
 pair-of-requires : tie.Need-pair-of-requires
-pair-of-requires c κs = rw (c .operator .ensures, c .before .before .before .held .ensures, c .before .held2 .ensures)
+pair-of-requires c κs = rw (c .operator .ensures, c .before .before .held .ensures, c .before .held2 .ensures)
     (c .before .before .before .before .before .before .before .pre .ready)
 
 returns : tie.Need-returns
 returns c = c .pair-of .ensures
-    ∙ rw (c .before .operator .ensures, c .before .before .before .before .held .ensures, c .before .before .held2 .ensures)
+    ∙ rw (c .before .operator .ensures, c .before .before .before .held .ensures, c .before .before .held2 .ensures)
 
 pub inner-pair-spec : {M : Type 1} → statement M
 inner-pair-spec =

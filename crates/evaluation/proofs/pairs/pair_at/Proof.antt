@@ -7,7 +7,7 @@ use Rattle.evaluation.proofs.pairs.pair_at.Statement.{statement}
 use Rattle.evaluation.proofs.pairs.pair_at.Tie as tie
 
 node-at-requires : tie.Need-node-at-requires
-node-at-requires c κs = node-there _ _ (c .before .pre .accepted) (c .before .pre .inside)
+node-at-requires c κs = node-there _ _ (c .before .before .before .pre .accepted) (c .before .before .before .pre .inside)
 
 returns : tie.Need-returns
 returns c = let k : c .before .before .node-at .result .kind < 2 = omega arith in
@@ -16,7 +16,7 @@ returns c = let k : c .before .before .node-at .result .kind < 2 = omega arith i
 inner-pair-requires : tie.Need-inner-pair-requires
 inner-pair-requires c κs = let k : 2 ≤ c .before .before .node-at .result .kind = omega arith in
     rw (c .before .before .node-at .ensures)
-    (narrowed _ _ _ _ (c .before .before .before .before .pre) (rw (c .before .before .node-at .ensures) at k))
+    (narrowed _ _ _ _ (c .before .before .before .before .before .before .pre) (rw (c .before .before .node-at .ensures) at k))
 
 returns-2 : tie.Need-returns-2
 returns-2 c = let k : 2 ≤ c .before .before .before .node-at .result .kind = omega arith in

@@ -32,12 +32,13 @@ held-requires-2 : tie.Need-held-requires-2
 held-requires-2 c κs = search needs
 
 held-requires-3 : tie.Need-held-requires-3
-held-requires-3 c κs = search needs
+held-requires-3 c κs = let w = c .before .before .before .before .before .before .before .before in
+    (w .before .before .before .before .before .pre .below, w .operand-count .ensures)
 
 returns : tie.Need-returns
 unfolding spotIn
-returns c = let w = c .before .before .before .before .before .before .before .before .before .before in
-    rw (w .widths-of .ensures, c .before .before .before .held .ensures, c .before .held2 .ensures, c .held3 .ensures)
+returns c = let w = c .before .before .before .before .before .before .before .before in
+    rw (w .widths-of .ensures, c .before .before .held .ensures, c .before .held2 .ensures, c .held3 .ensures)
 
 pub spot-of-spec : {M : Type 1} → statement M
 spot-of-spec =

@@ -12,13 +12,13 @@ cast-n : tie.Need-cast-n
 cast-n c = search needs
 
 mul-from : tie.Need-mul-from
-mul-from c = omega (arith, own-there (c .before .before .before .before .before .before .pre .1) (c .node-count .ensures))
+mul-from c = omega (arith, own-there (c .before .before .before .before .before .before .before .before .pre .1) (c .node-count .ensures))
 
 add-to : tie.Need-add-to
-add-to c = omega (arith, own-there (c .before .before .before .before .before .before .pre .1) (c .node-count .ensures))
+add-to c = omega (arith, own-there (c .before .before .before .before .before .before .before .before .pre .1) (c .node-count .ensures))
 
 mul-run-one : tie.Need-mul-run-one
-mul-run-one c = omega (arith, own-there (c .before .before .before .before .before .before .pre .1) (c .node-count .ensures))
+mul-run-one c = omega (arith, own-there (c .before .before .before .before .before .before .before .before .pre .1) (c .node-count .ensures))
 
 sub-run-one : tie.Need-sub-run-one
 sub-run-one c = search needs
@@ -27,10 +27,10 @@ part-run-one-start : tie.Need-part-run-one-start
 part-run-one-start c = search needs
 
 part-run-one-end : tie.Need-part-run-one-end
-part-run-one-end c = own-there (c .before .before .before .before .before .before .pre .1) (c .node-count .ensures)
+part-run-one-end c = own-there (c .before .before .before .before .before .before .before .before .pre .1) (c .node-count .ensures)
 
 run-one-requires : tie.Need-run-one-requires
-run-one-requires c κs = (c .before .before .before .before .before .before .before .pre .0, lent-own (c .before .before .before .before .before .before .before .pre .1) (c .before .node-count .ensures))
+run-one-requires c κs = (c .before .before .before .before .before .before .before .before .before .pre .0, lent-own (c .before .before .before .before .before .before .before .before .before .pre .1) (c .before .node-count .ensures))
 
 mul-at : tie.Need-mul-at
 mul-at c = search needs

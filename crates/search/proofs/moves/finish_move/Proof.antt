@@ -19,11 +19,11 @@ mul-values : tie.Need-mul-values
 mul-values c = search needs
 
 slice-write-values : tie.Need-slice-write-values
-slice-write-values c = let f = rw (c .before .stop .given .1) at (c .before .before .before .make-move .ensures) in place-lt (c .before .before .before .before .before .before .before .before .before .pre .0) (f .0)
+slice-write-values c = let f = rw (c .before .stop .given .1) at (c .before .before .before .make-move .ensures) in place-lt (c .before .before .before .before .before .before .before .before .before .before .before .pre .0) (f .0)
 
 evaluate-above-requires : tie.Need-evaluate-above-requires
 evaluate-above-requires c κs = let f = rw (c .before .before .stop .given .1) at (c .before .before .before .before .make-move .ensures) in
-    changed (c .before .before .before .before .before .before .before .before .before .before .pre .0) (f .0) (c .before .before .before .before .before .before .before .before .before .before .pre .1)
+    changed (c .before .before .before .before .before .before .before .before .before .before .before .before .pre .0) (f .0) (c .before .before .before .before .before .before .before .before .before .before .before .before .pre .1)
 
 enum-known-stop-2 : tie.Need-enum-known-stop-2
 enum-known-stop-2 c = search needs
@@ -32,7 +32,7 @@ enum-told : tie.Need-enum-told
 enum-told c = search needs
 
 same-length : tie.Need-same-length
-same-length c = renewed-long (c .before .before .before .before .before .before .before .before .before .before .before .before .before .args .values .now) (c .before .before .before .before .before .stop .given .0 .1 .0) (c .before .before .evaluate-above .ensures)
+same-length c = renewed-long (c .before .before .before .before .before .before .before .before .before .before .before .before .before .before .before .args .values .now) (c .before .before .before .before .before .stop .given .0 .1 .0) (c .before .before .evaluate-above .ensures)
 
 returns : tie.Need-returns
 returns c = let f = rw (c .before .before .before .before .before .stop .given .1) at (c .before .before .before .before .before .before .before .make-move .ensures) in

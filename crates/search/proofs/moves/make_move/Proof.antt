@@ -9,7 +9,7 @@ use Rattle.search.proofs.moves.make_move.Statement.{statement}
 use Rattle.search.proofs.moves.make_move.Tie as tie
 
 returns : tie.Need-returns
-returns c = (move-short _ _ (c .before .before .before .before .args .tape .now) (c .before .before .before .before .args .at) _ (omega arith), tt)
+returns c = (move-short _ _ (c .before .before .before .before .before .before .args .tape .now) (c .before .before .before .before .before .before .args .at) _ (omega arith), tt)
 
 mul-k : tie.Need-mul-k
 mul-k c = search needs
@@ -21,7 +21,7 @@ rem-k : tie.Need-rem-k
 rem-k c = search needs
 
 nth-unsatisfied-requires : tie.Need-nth-unsatisfied-requires
-nth-unsatisfied-requires c κs = let p = c .before .before .before .before .before .pre in
+nth-unsatisfied-requires c κs = let p = c .before .before .before .before .before .before .before .pre in
     (record { accepted = p .searching .filled .accepted; held = p .searching .held }, p .counted, mod-lt _ (p .some))
 
 root-at-requires : tie.Need-root-at-requires
@@ -31,12 +31,12 @@ add-walk : tie.Need-add-walk
 add-walk c = search needs
 
 walk-requires : tie.Need-walk-requires
-walk-requires c κs = let h : c .before .before .before .before .before .before .before .args .at < length (c .before .before .before .before .before .before .before .args .tape .now) = omega arith in
-    move-walking _ _ (c .before .before .before .before .before .before .before .pre .searching) (c .before .before .before .before .before .before .before .pre .counted) (c .before .nth-unsatisfied .ensures) (c .root-at .ensures) h (c .before .before .before .before .before .before .before .pre .made-le)
+walk-requires c κs = let h : c .before .before .before .before .before .before .before .before .before .args .at < length (c .before .before .before .before .before .before .before .before .before .args .tape .now) = omega arith in
+    move-walking _ _ (c .before .before .before .before .before .before .before .before .before .pre .searching) (c .before .before .before .before .before .before .before .before .before .pre .counted) (c .before .nth-unsatisfied .ensures) (c .root-at .ensures) h (c .before .before .before .before .before .before .before .before .before .pre .made-le)
 
 returns-2 : tie.Need-returns-2
-returns-2 c = let h : c .before .before .before .before .before .before .before .before .args .at < length (c .before .before .before .before .before .before .before .before .args .tape .now) = omega arith in (
-  move-made _ _ (c .before .before .before .before .before .before .before .before .pre .searching) (c .before .before .before .before .before .before .before .before .pre .counted) (c .before .before .nth-unsatisfied .ensures) (c .before .root-at .ensures) h (c .walk .ensures .0),
+returns-2 c = let h : c .before .before .before .before .before .before .before .before .before .before .args .at < length (c .before .before .before .before .before .before .before .before .before .before .args .tape .now) = omega arith in (
+  move-made _ _ (c .before .before .before .before .before .before .before .before .before .before .pre .searching) (c .before .before .before .before .before .before .before .before .before .before .pre .counted) (c .before .before .nth-unsatisfied .ensures) (c .before .root-at .ensures) h (c .walk .ensures .0),
   c .walk .ensures .1,
 )
 

@@ -5,7 +5,6 @@ use native.Mathlib.Omega.{arith}
 use borrow.Author.Count.{below-more}
 use Rattle.evaluation.specs.Problem.{problem, pairHi}
 use Rattle.evaluation.specs.laws.Readings.{root-inside, root-hi}
-use Rattle.evaluation.specs.laws.Good.{good-of}
 use borrow.Author.Needs.{needs}
 use Rattle.search.proofs.roots.closed_root.Statement.{statement}
 use Rattle.search.proofs.roots.closed_root.Tie as tie
@@ -32,16 +31,16 @@ cast-if1 c = search needs
 mul-if1 : tie.Need-mul-if1 Inv-loop μ-loop
 mul-if1 c = search needs
 
-element-copy-out-if1 : tie.Need-element-copy-out-if1 Inv-loop μ-loop
-element-copy-out-if1 c = let a = c .before .before .before .before .before .pre .accepted in
-    omega (arith, c .root-at .ensures, root-inside _ (c .before .before .loop .j) a (omega arith), good-of _ a .few)
+shared-slice-read-if1 : tie.Need-shared-slice-read-if1 Inv-loop μ-loop
+shared-slice-read-if1 c = let p = c .before .before .before .before .before .before .before .before .pre in
+    omega (arith, c .before .root-at .ensures, root-inside _ (c .before .before .before .loop .j) (p .accepted) (omega arith), p .room-hi)
 
 returns : tie.Need-returns Inv-loop μ-loop
 returns c = let st = c .before .before .before .before in
     record {
       at = st .loop .j;
       at-lt = omega arith;
-      is-zero = sym (root-hi _ _ _ _ _ (st .before .before .before .pre) (c .before .before .root-at .ensures)) ∙ c .if1 .taken;
+      is-zero = sym (root-hi _ _ _ _ _ (st .before .before .before .before .before .pre) (omega arith) (c .before .before .root-at .ensures)) ∙ c .if1 .taken;
     }
 
 add-j : tie.Need-add-j Inv-loop μ-loop
@@ -55,7 +54,7 @@ loop-again c = let st = c .before .before .before .before in (
   st .loop .inv .0,
   omega arith,
   below-more _ _ (st .loop .inv .2)
-      (λ q. c .if1 .left (root-hi _ _ _ _ _ (st .before .before .before .pre) (c .before .before .root-at .ensures) ∙ q)),
+      (λ q. c .if1 .left (root-hi _ _ _ _ _ (st .before .before .before .before .before .pre) (omega arith) (c .before .before .root-at .ensures) ∙ q)),
 )
 
 returns-2 : tie.Need-returns-2 Inv-loop μ-loop
@@ -72,7 +71,7 @@ closed-root-spec =
     root-at-requires
     cast-if1
     mul-if1
-    element-copy-out-if1
+    shared-slice-read-if1
     returns
     add-j
     loop-less
