@@ -108,13 +108,14 @@ const KEYS: [u64; 28] = [
     0,
 ];
 
-// The keyword that a number tells; 28 where it tells none.
+// The keyword that a number tells; 28 where it tells none. (The table is taken out of the loop: it would be laid out anew at each turn.)
 fn place_of(key: u64) -> u8
     ensures { λ r. ⌜ r ≡ position key keys ⌝ }
 {
+    let keys = KEYS;
     let mut i: u8 = 0;
     while i < 28 {
-        if KEYS[i as usize] == key {
+        if keys[i as usize] == key {
             return i;
         }
         i += 1;

@@ -10,10 +10,10 @@ use Rattle.btor2.proofs.table.place_of.Statement.{statement}
 use Rattle.btor2.proofs.table.place_of.Tie as tie
 
 abbrev Inv-loop : tie.InvT-loop
-Inv-loop key i₀ i = (i ≤ 28) × (position key keys ≡ i + position key (drop i keys))
+Inv-loop key keys₀ i₀ i = (i ≤ 28) × (position key keys ≡ i + position key (drop i keys))
 
 abbrev μ-loop : tie.MeasureT-loop
-μ-loop key i₀ i = 28 - i
+μ-loop key keys₀ i₀ i = 28 - i
 
 loop-holds : tie.Need-loop-holds Inv-loop μ-loop
 loop-holds c = (omega arith, position-starts _ keys)
