@@ -1,16 +1,17 @@
 -- The conversion: a fold over the lines that gives nodes and roots, or the first refusal and its line.
 use mathlib.Core.Bool.{Bool, true, false, cond, not, _&&_, _||_}
 use mathlib.Core.List.{List, [], _∷_, _++_}
-use Prim.Native.Nat.{ℕ, zero, suc, _+_, _-_, _*_, _/_, _%_}
+use Prim.Native.Nat.{ℕ, zero, suc, _+_, _-_, _*_}
 use lib.Dec.{ltb, leb, eqb}
 use lib.ListN.{length, getD}
 use Rattle.problem.specs.declared.layout.Node.{Node}
-use Rattle.btor2.specs.Lines.{Token, lines, tokens}
-use Rattle.btor2.specs.declared.table.Makes.{Makes}
-use Rattle.btor2.specs.declared.table.Makes.the-variants.{Sort, Input, Value, Root}
-use Rattle.btor2.specs.Format.{Ref, Item, _orElse_, given, formatFault, item}
-use Rattle.btor2.specs.declared.names.Operand.{Operand}
-use Rattle.btor2.specs.Nodes.{invert, constantValue, fits, own}
+use Rattle.lines.specs.Lines.{Token, lines, tokens}
+use Rattle.lines.specs.declared.table.Makes.{Makes}
+use Rattle.lines.specs.declared.table.Makes.the-variants.{Sort, Input, Value, Root}
+use Rattle.lines.specs.Format.{Ref, Item, _orElse_, given, formatFault, item}
+use Rattle.spelling.specs.declared.line.Operand.{Operand}
+use Rattle.spelling.specs.Nodes.{invert, constantValue, fits, own, nots, placed, isRoot}
+use Rattle.spelling.specs.Bytes.{littleEndian, allNodes, allRoots}
 
 -- ---- what the lines so far have defined
 
@@ -50,16 +51,6 @@ operandOf σ r =
 unfoldable pub operands : State → List Ref → List Operand
 operands σ [] = []
 operands σ (r ∷ rs) = operandOf σ r ∷ operands σ rs
-
--- "first a not for each negative reference in operand order, none shared", from the id n on
-unfoldable pub nots : List Operand → List Node
-nots [] = []
-nots (o ∷ os) = cond (o .negative) (invert (o .width) (o .node) ∷ nots os) (nots os)
-
--- the nodes that then are the operands
-unfoldable pub placed : ℕ → List Operand → List ℕ
-placed n [] = []
-placed n (o ∷ os) = cond (o .negative) (n ∷ placed (n + 1) os) (o .node ∷ placed n os)
 
 abbrev pub widthOf : List Operand → ℕ → ℕ
 widthOf os k = getD os k (record { negative = false; node = 0; width = 0 }) .width
@@ -105,10 +96,6 @@ nodeFor σ i =
     (length (σ .nodes) + length (newNodes σ i) - 1)
 
 -- "once for each node, at its first constraint"
-unfoldable pub isRoot : ℕ → List ℕ → Bool
-isRoot n [] = false
-isRoot n (r ∷ rs) = eqb r n || isRoot n rs
-
 unfoldable pub withRoot : List ℕ → ℕ → List ℕ
 withRoot rs n = cond (isRoot n rs) rs (rs ++ n ∷ [])
 
@@ -169,32 +156,6 @@ unfoldable pub outcome : ℕ → List ℕ → Outcome
 outcome room text = cond (ltb room 9) (refused 5 0) (convertFrom room start 1 (lines text))
 
 -- ---- the bytes
-
--- a number's lowest n bytes, the lowest first
-unfoldable pub littleEndian : ℕ → ℕ → List ℕ
-littleEndian zero v = []
-littleEndian (suc n) v = v % 256 ∷ littleEndian n (v / 256)
-
--- a node's bytes: kind and width, the fields, lo and hi
-unfoldable pub kindBytes : ℕ → ℕ → List ℕ
-kindBytes kind width = littleEndian 1 kind ++ littleEndian 1 width
-
-unfoldable pub fieldBytes : ℕ → ℕ → ℕ → List ℕ
-fieldBytes a b c = littleEndian 2 a ++ littleEndian 2 b ++ littleEndian 2 c
-
-unfoldable pub pairBytes : ℕ → ℕ → List ℕ
-pairBytes lo hi = littleEndian 8 lo ++ littleEndian 8 hi
-
-unfoldable pub nodeBytes : Node → List ℕ
-nodeBytes n = kindBytes (n .kind) (n .width) ++ fieldBytes (n .a) (n .b) (n .c) ++ pairBytes (n .lo) (n .hi)
-
-unfoldable pub allNodes : List Node → List ℕ
-allNodes [] = []
-allNodes (n ∷ ns) = nodeBytes n ++ allNodes ns
-
-unfoldable pub allRoots : List ℕ → List ℕ
-allRoots [] = []
-allRoots (r ∷ rs) = littleEndian 2 r ++ allRoots rs
 
 -- header, nodes, roots
 unfoldable pub bytesOf : State → List ℕ

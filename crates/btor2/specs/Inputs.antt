@@ -4,10 +4,10 @@ use Prim.Native.Nat.{ℕ}
 use lib.ListN.{getD, drop}
 use Rattle.evaluation.specs.Problem.{byKind}
 use Rattle.problem.specs.declared.layout.Node.{Node}
-use Rattle.btor2.specs.declared.table.Makes.{Makes}
-use Rattle.btor2.specs.declared.table.Makes.the-variants.{Sort, Input, Value, Root}
-use Rattle.btor2.specs.Lines.{Token}
-use Rattle.btor2.specs.Format.{Item, item}
+use Rattle.lines.specs.declared.table.Makes.{Makes}
+use Rattle.lines.specs.declared.table.Makes.the-variants.{Sort, Input, Value, Root}
+use Rattle.lines.specs.Lines.{Token}
+use Rattle.lines.specs.Format.{Item, item}
 use Rattle.btor2.specs.Conversion.{Table, at}
 
 -- the values of the variables where all nodes have the values vs, and the variables' widths, by ascending id

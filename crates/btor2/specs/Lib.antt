@@ -1,8 +1,4 @@
 -- The definitions to be believed, in this order; then by folder what is inner, what is promised, and laws.
-pub mod Lines
-pub mod Words
-pub mod Format
-pub mod Nodes
 pub mod Conversion
 pub mod Meaning
 pub mod Inputs

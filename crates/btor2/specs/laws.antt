@@ -1,16 +1,7 @@
 -- Laws that the proofs cite.
 pub mod Spelling
 pub mod Reached
-pub mod Line
-pub mod Mark
-pub mod Word
-pub mod Keys
-pub mod Format
-pub mod Text
 pub mod Name
-pub mod Constant
-pub mod Spell
-pub mod Rule
 pub mod Operand
 pub mod Entry
 pub mod Passed
@@ -18,7 +9,6 @@ pub mod Alias
 pub mod Sound
 pub mod Sorts
 pub mod Read
-pub mod Take
 pub mod NameIf
 pub mod ReadOf
 pub mod Place
@@ -36,4 +26,3 @@ pub mod World
 pub mod Met
 pub mod Given
 pub mod Searched
-pub mod Byte

@@ -2,28 +2,13 @@
 ghost use Prim.Native.Nat.{_≤_};
 ghost use Rattle.btor2.specs.Answer.{Converts};
 
-mod bytes;
-mod constants;
 mod fold;
-mod format;
-mod lines;
 mod names;
 mod read;
-mod spell;
-mod table;
 mod take;
-mod told;
 
-pub use constants::Literal;
 pub use fold::Ended;
 use fold::convert_with;
-pub use names::Operand;
-pub use read::Line;
-pub use read::Operands;
-pub use table::Form;
-pub use table::Makes;
-pub use table::Row;
-pub use table::Rule;
 pub use take::Counts;
 pub use take::Taken;
 

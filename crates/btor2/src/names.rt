@@ -3,25 +3,19 @@
 ghost use mathlib.Core.Path.{_≡_};
 ghost use Prim.Native.Nat.{ℕ, _≤_};
 ghost use lib.ListN.{length, take};
-ghost use Rattle.btor2.specs.Lines.{lines, tokens};
-ghost use Rattle.btor2.specs.Format.{refOf};
+ghost use Rattle.lines.specs.Lines.{lines, tokens};
+ghost use Rattle.lines.specs.Format.{refOf};
 ghost use Rattle.btor2.specs.Conversion.{State, at};
 ghost use Rattle.btor2.specs.inner.Kept.{Rising, Lower, Beside, Named, Sorted, Seen, nodeNamed, lookedUp, WidthKept, SortsKept, SortNoted};
-use crate::format::is_signed;
-use crate::format::unsigned_of;
-use crate::lines::token_walk;
-use crate::told::alias_of;
-use crate::told::line_of;
-use crate::told::small_of;
-use crate::told::width_told;
+use lines::alias_of;
+use lines::is_signed;
+use lines::line_of;
+use lines::small_of;
+use lines::token_walk;
+use lines::unsigned_of;
+use lines::width_told;
+use spelling::Operand;
 use texts::byte_at;
-
-// A line's operand: whether a not is wanted, the node that its reference names, and that node's width.
-pub struct Operand {
-    pub negative: bool,
-    pub node: u16,
-    pub width: u8,
-}
 
 // The first place, of so many increasing ids, that is not below an id.
 fn lower(ids: &[u64], names: u16, id: u64) -> u16

@@ -4,46 +4,30 @@ ghost use mathlib.Core.Bool.{Bool, cond};
 ghost use Prim.Native.Nat.{_+_, _≤_};
 ghost use lib.ListN.{length, take};
 ghost use Rattle.texts.specs.Numbers.{valueIn};
-ghost use Rattle.btor2.specs.Lines.{lines, tokens};
-ghost use Rattle.btor2.specs.Format.{refOf, sortNamed};
+ghost use Rattle.lines.specs.Lines.{lines, tokens};
+ghost use Rattle.lines.specs.Format.{refOf, sortNamed};
 ghost use Rattle.btor2.specs.Conversion.{State};
-ghost use Rattle.btor2.specs.inner.Told.{small};
+ghost use Rattle.lines.specs.inner.Told.{small};
 ghost use Rattle.btor2.specs.inner.Kept.{Rising, Seen, SortsKept};
-ghost use Rattle.btor2.specs.inner.Places.{Marked};
-ghost use Rattle.btor2.specs.inner.Spelled.{short};
+ghost use Rattle.lines.specs.inner.Places.{Marked};
+ghost use Rattle.spelling.specs.inner.Spelled.{short};
 ghost use Rattle.btor2.specs.inner.Read.{operandIf, Operated, Read};
-use crate::constants::Literal;
-use crate::constants::literal_of;
-use crate::format::ref_start;
-use crate::lines::token_at;
-use crate::names::Operand;
 use crate::names::operand_of;
 use crate::names::sort_width;
-use crate::table::Makes;
-use crate::table::makes_of;
-use crate::table::number_of;
-use crate::table::numbers_of;
-use crate::table::refs_of;
-use crate::told::small_of;
+use lines::Makes;
+use lines::makes_of;
+use lines::number_of;
+use lines::numbers_of;
+use lines::ref_start;
+use lines::refs_of;
+use lines::small_of;
+use lines::token_at;
+use spelling::Line;
+use spelling::Operand;
+use spelling::Operands;
+use spelling::literal_of;
 use texts::Number;
 use texts::value_in;
-
-// The operands of a line; one that it does not have is all 0.
-pub struct Operands {
-    pub a: Operand,
-    pub b: Operand,
-    pub c: Operand,
-}
-
-pub struct Line {
-    pub word: u8,
-    pub id: u64,
-    pub width: u8,
-    pub ops: Operands,
-    pub first: u8,
-    pub second: u8,
-    pub literal: Literal,
-}
 
 // A number as far as widths go: 128 for all from there on.
 fn short_of(t: &[u8]) -> u8

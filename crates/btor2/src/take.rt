@@ -5,25 +5,28 @@ ghost use mathlib.Core.List.{List, [], _∷_, _++_};
 ghost use Prim.Native.Nat.{ℕ, _+_, _*_, _≤_, _<_};
 ghost use lib.ListN.{length, take, set};
 ghost use lib.Seq.{sets};
-ghost use Rattle.btor2.specs.Lines.{lines, tokens};
-ghost use Rattle.btor2.specs.Words.{shape, wordOf};
-ghost use Rattle.btor2.specs.Conversion.{State, isRoot, allNodes};
-ghost use Rattle.btor2.specs.inner.Places.{Marked};
+ghost use Rattle.lines.specs.Lines.{lines, tokens};
+ghost use Rattle.lines.specs.Words.{shape, wordOf};
+ghost use Rattle.btor2.specs.Conversion.{State};
+ghost use Rattle.spelling.specs.Nodes.{isRoot};
+ghost use Rattle.spelling.specs.Bytes.{allNodes};
+ghost use Rattle.lines.specs.inner.Places.{Marked};
 ghost use Rattle.btor2.specs.inner.Kept.{SortsKept};
-ghost use Rattle.btor2.specs.inner.Spelled.{countRead, newRead};
+ghost use Rattle.spelling.specs.inner.Spelled.{countRead, newRead};
 ghost use Rattle.btor2.specs.inner.Taking.{unknownRead, sortMissing, operandMissing, rootsAfter, addsName, overfull, NamedIf, RootIf, Fits, Kept, Stepped, Placed};
-use crate::bytes::put_node;
-use crate::format::format_fault;
-use crate::lines::token_at;
-use crate::read::Line;
-use crate::read::Operands;
 use crate::read::read_line;
-use crate::spell::line_fits;
-use crate::spell::new_count;
-use crate::spell::new_node;
-use crate::spell::node_for;
-use crate::table::Makes;
-use crate::table::makes_of;
+use lines::Makes;
+use lines::format_fault;
+use lines::makes_of;
+use lines::token_at;
+use spelling::Line;
+use spelling::Operands;
+use spelling::is_root;
+use spelling::line_fits;
+use spelling::new_count;
+use spelling::new_node;
+use spelling::node_for;
+use spelling::put_node;
 
 // What is kept beside the arrays: the last id, and how many nodes, roots and kept ids there are.
 pub struct Counts {
@@ -36,21 +39,6 @@ pub struct Counts {
 pub enum Taken {
     Next(Counts),
     Fault(u8),
-}
-
-// Whether a node is among so many roots.
-fn is_root(rooted: &[u16], roots: u16, node: u16) -> bool
-    requires { ⌜ roots ≤ length (now rooted) ⌝ }
-    ensures { λ r. ⌜ r ≡ isRoot node (take roots (now (rooted .entry))) ⌝ }
-{
-    let mut k: u16 = 0;
-    while k < roots {
-        if rooted[k as usize] == node {
-            return true;
-        }
-        k += 1;
-    }
-    false
 }
 
 // ---- refusals 3 and 5

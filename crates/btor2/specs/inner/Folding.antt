@@ -7,12 +7,9 @@ use lib.Seq.{sets}
 use Rattle.btor2.specs.declared.take.Counts.{Counts}
 use Rattle.btor2.specs.declared.fold.Ended.{Ended}
 use Rattle.btor2.specs.declared.fold.Ended.the-variants.{Done, Stopped}
-use Rattle.btor2.specs.Lines.{lines}
-use Rattle.btor2.specs.Conversion.{State, start, size, littleEndian, allNodes, allRoots, Outcome, converted, refused, convertFrom}
-
--- the mark `TBV`, version 1 and the counts
-unfoldable pub headerBytes : ℕ → ℕ → List ℕ
-headerBytes nodes roots = littleEndian 3 5653076 ++ littleEndian 2 1 ++ littleEndian 2 nodes ++ littleEndian 2 roots
+use Rattle.lines.specs.Lines.{lines}
+use Rattle.btor2.specs.Conversion.{State, start, size, Outcome, converted, refused, convertFrom}
+use Rattle.spelling.specs.Bytes.{littleEndian, allNodes, allRoots}
 
 -- the arrays hold what a state does
 pub record Holds (room : ℕ) (σ : State) (bytes rooted : List ℕ) (n : Counts) : Type 0 where
@@ -31,8 +28,3 @@ pub data Ends (room : ℕ) (text bytes rooted : List ℕ) : Ended → Type 0 whe
       → Holds room σ bytes rooted n
       → Ends room text bytes rooted (Done n)
   stopped : {m k : ℕ} → convertFrom room start 1 (lines text) ≡ refused m k → Ends room text bytes rooted (Stopped m k)
-
--- the bytes written from the start of the lent ones, and how many they are
-pub record Wrote (out bytes rooted : List ℕ) (nodes roots : ℕ) (after : List ℕ) (r : ℕ) : Type 0 where
-  pub written : after ≡ sets out 0 (headerBytes nodes roots ++ take (24 * nodes) bytes ++ allRoots (take roots rooted))
-  pub count : r ≡ 9 + 24 * nodes + 2 * roots

@@ -7,11 +7,11 @@ use Prim.Native.Nat.{ℕ, _+_, _*_, _^_, _≤_, _<_}
 use lib.Dec.{eqb}
 use lib.ListN.{length, getD, set}
 use Rattle.texts.specs.Numbers.{valueIn}
-use Rattle.btor2.specs.declared.names.Operand.{Operand}
-use Rattle.btor2.specs.Lines.{Token, token, tokens}
-use Rattle.btor2.specs.Format.{Ref}
+use Rattle.spelling.specs.declared.line.Operand.{Operand}
+use Rattle.lines.specs.Lines.{Token, token, tokens}
+use Rattle.lines.specs.Format.{Ref}
 use Rattle.btor2.specs.Conversion.{State, known, at, widthIn, operandOf}
-use Rattle.btor2.specs.inner.Told.{idOf, findLine, small, widthTold, isAlias}
+use Rattle.lines.specs.inner.Told.{idOf, findLine, small, widthTold, isAlias}
 
 -- ---- ids that increase
 

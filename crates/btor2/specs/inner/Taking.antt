@@ -6,17 +6,19 @@ use Prim.Native.Nat.{ℕ, suc, _+_, _*_, _≤_, _<_}
 use lib.Dec.{ltb, leb, eqb}
 use lib.ListN.{length, getD, take, set}
 use lib.Seq.{sets}
-use Rattle.btor2.specs.declared.table.Makes.{Makes}
-use Rattle.btor2.specs.declared.table.Makes.the-variants.{Sort, Input, Value, Root}
-use Rattle.btor2.specs.declared.read.Operands.{Operands}
-use Rattle.btor2.specs.declared.read.Line.{Line}
+use Rattle.lines.specs.declared.table.Makes.{Makes}
+use Rattle.lines.specs.declared.table.Makes.the-variants.{Sort, Input, Value, Root}
+use Rattle.spelling.specs.declared.line.Operands.{Operands}
+use Rattle.spelling.specs.declared.line.Line.{Line}
 use Rattle.btor2.specs.declared.take.Counts.{Counts}
 use Rattle.btor2.specs.declared.take.Taken.{Taken}
 use Rattle.btor2.specs.declared.take.Taken.the-variants.{Next, Fault}
-use Rattle.btor2.specs.Lines.{lines, tokens}
-use Rattle.btor2.specs.Words.{shape, wordOf}
-use Rattle.btor2.specs.Conversion.{State, isRoot, allNodes, lineFault, afterLine}
-use Rattle.btor2.specs.inner.Spelled.{countRead, newRead, standingFor}
+use Rattle.lines.specs.Lines.{lines, tokens}
+use Rattle.lines.specs.Words.{shape, wordOf}
+use Rattle.btor2.specs.Conversion.{State, lineFault, afterLine}
+use Rattle.spelling.specs.Nodes.{isRoot}
+use Rattle.spelling.specs.Bytes.{allNodes}
+use Rattle.spelling.specs.inner.Spelled.{countRead, newRead, standingFor}
 use Rattle.btor2.specs.inner.Kept.{Rising, Named}
 use Rattle.btor2.specs.laws.Reached.{Reached}
 

@@ -9,7 +9,7 @@ use Rattle.operators.specs.Meaning.{meaning, flag}
 use Rattle.operators.specs.Table.{kindOf}
 use Rattle.evaluation.specs.Problem.{byKind}
 use Rattle.problem.specs.declared.layout.Node.{Node}
-use Rattle.btor2.specs.Nodes.{invert}
+use Rattle.spelling.specs.Nodes.{invert}
 use Rattle.btor2.specs.Conversion.{widthIn}
 use Rattle.btor2.specs.Meaning.{isMinus, moved, flipped}
 

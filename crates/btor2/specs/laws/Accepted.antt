@@ -20,7 +20,7 @@ use Rattle.problem.specs.Layout.{nodeCount, rootCount, nodeAt, widthAt, rootAt}
 use Rattle.problem.specs.Refusals.{checked}
 use Rattle.problem.specs.inner.Facts.{HeaderFacts, NodeFacts, Facts}
 use Rattle.problem.specs.laws.Facts.{facts-accepted}
-use Rattle.btor2.specs.Nodes.{operator, constantNode, variableNode, invert}
+use Rattle.spelling.specs.Nodes.{operator, constantNode, variableNode, invert}
 use Rattle.btor2.specs.Conversion.{State, widthIn, bytesOf}
 use Rattle.btor2.specs.laws.Built.{isBoth, isTest, Built, is-variable, is-constant, is-not, is-both, is-test, is-choice, is-sum, is-part, is-signs, AllBuilt}
 use Rattle.btor2.specs.laws.Fine.{AllRoots, Fine, distinct-apart}

@@ -7,19 +7,19 @@ use native.Mathlib.Omega.{arith}
 use lib.Dec.{T, eqb, ltb, leb, ltb→lt}
 use lib.ListN.{length, getD, length-append}
 use borrow.Author.Tests.{eq-eqb, ne-eqb, eqb-true, eqb-false}
-use Rattle.operators.specs.laws.Table.{or-right}
 use Rattle.words.specs.laws.Cases.{every, every-at}
 use Rattle.texts.specs.Numbers.{valueIn}
-use Rattle.btor2.specs.declared.table.Makes.the-variants.{Value}
-use Rattle.btor2.specs.declared.table.Form.{Form}
-use Rattle.btor2.specs.declared.table.Form.the-variants as form
-use Rattle.btor2.specs.Lines.{Token, token}
-use Rattle.btor2.specs.Words.{Word, sort, input, zeros, one, ones, const, constd, consth, inv, conj, disj, xor, add, sub, mul, sll, srl, sra, eq, neq, ult, slt, ite, concat, slice, uext, sext, constraint, other, numberOf, wordOf, row, shape}
-use Rattle.btor2.specs.Format.{signed, unsigned, refOf, refsFrom, itemOf, item}
-use Rattle.btor2.specs.Nodes.{own, operator, constantNode, invert}
-use Rattle.btor2.specs.Conversion.{State, at, known, operandOf, operands, nots, placed, newNodes, nodeFor, anyUnknown}
-use Rattle.btor2.specs.inner.Spelled.{formOf, ownCount}
-use Rattle.btor2.specs.inner.Told.{isAlias}
+use Rattle.lines.specs.laws.Word.{or-right}
+use Rattle.lines.specs.declared.table.Makes.the-variants.{Value}
+use Rattle.spelling.specs.declared.forms.Form.{Form}
+use Rattle.spelling.specs.declared.forms.Form.the-variants as form
+use Rattle.lines.specs.Lines.{Token, token}
+use Rattle.lines.specs.Words.{Word, sort, input, zeros, one, ones, const, constd, consth, inv, conj, disj, xor, add, sub, mul, sll, srl, sra, eq, neq, ult, slt, ite, concat, slice, uext, sext, constraint, other, numberOf, wordOf, row, shape}
+use Rattle.lines.specs.Format.{signed, unsigned, refOf, refsFrom, itemOf, item}
+use Rattle.spelling.specs.Nodes.{own, operator, constantNode, invert, nots, placed}
+use Rattle.btor2.specs.Conversion.{State, at, known, operandOf, operands, newNodes, nodeFor, anyUnknown}
+use Rattle.spelling.specs.inner.Spelled.{formOf, ownCount}
+use Rattle.lines.specs.inner.Told.{isAlias}
 
 -- how many nodes of its own a keyword's line makes
 pub own-count : (k : Word) (w n a b c p q v : ℕ) → length (own k w n a b c p q v) ≡ ownCount (formOf k) p

@@ -14,11 +14,11 @@ use borrow.Author.Tests.{eqb-true, eqb-false, leb-true, ltb-true, ltb-false}
 use Rattle.words.specs.laws.Bits.{lt-or-ge}
 use Rattle.texts.specs.laws.Runs.{both-true}
 use Rattle.problem.specs.declared.layout.Node.{Node}
-use Rattle.btor2.specs.declared.names.Operand.{Operand}
-use Rattle.btor2.specs.Words.{Word, sort, input, zeros, one, ones, const, constd, consth, inv, conj, disj, xor, add, sub, mul, sll, srl, sra, eq, neq, ult, slt, ite, concat, slice, uext, sext, constraint, other, shape}
-use Rattle.btor2.specs.Format.{Constant}
-use Rattle.btor2.specs.Nodes.{operator, constantNode, variableNode, invert, fits, own}
-use Rattle.btor2.specs.Conversion.{widthIn, nots, placed}
+use Rattle.spelling.specs.declared.line.Operand.{Operand}
+use Rattle.lines.specs.Words.{Word, sort, input, zeros, one, ones, const, constd, consth, inv, conj, disj, xor, add, sub, mul, sll, srl, sra, eq, neq, ult, slt, ite, concat, slice, uext, sext, constraint, other, shape}
+use Rattle.lines.specs.Format.{Constant}
+use Rattle.spelling.specs.Nodes.{operator, constantNode, variableNode, invert, fits, own, nots, placed}
+use Rattle.btor2.specs.Conversion.{widthIn}
 
 -- kinds whose two operands have the node's width, and kinds that compare
 unfoldable pub isBoth : ℕ → Bool

@@ -7,9 +7,10 @@ use lib.ListN.{length, getD, take, drop, length-append}
 use lib.Seq.{drop-append-add, take-at, drop-at, getD-drop}
 use Rattle.problem.specs.declared.layout.Node.{Node}
 use Rattle.problem.specs.Layout.{le16, le32, le64, version, nodeCount, rootCount, nodeOf, nodeStart, nodeAt, widthAt, rootStart, rootAt, totalLength}
-use Rattle.btor2.specs.Nodes.{invert}
-use Rattle.btor2.specs.Conversion.{State, widthIn, littleEndian, kindBytes, fieldBytes, pairBytes, nodeBytes, allNodes, allRoots, bytesOf}
-use Rattle.btor2.specs.laws.Take.{node-long, all-long, roots-long}
+use Rattle.spelling.specs.Nodes.{invert}
+use Rattle.btor2.specs.Conversion.{State, widthIn, bytesOf}
+use Rattle.spelling.specs.Bytes.{littleEndian, kindBytes, fieldBytes, pairBytes, nodeBytes, allNodes, allRoots}
+use Rattle.spelling.specs.laws.Written.{node-long, all-long, roots-long}
 
 -- ---- numbers
 

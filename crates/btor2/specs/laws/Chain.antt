@@ -13,18 +13,18 @@ use lib.Seq.{append-snoc, getD-append-seam}
 use borrow.Author.Tests.{eqb-true, eqb-false, leb-true, ltb-true, ltb-false, eq-eqb, ne-eqb, not-false}
 use Rattle.texts.specs.laws.Runs.{both-true}
 use Rattle.problem.specs.declared.layout.Node.{Node}
-use Rattle.btor2.specs.declared.table.Makes.{Makes}
-use Rattle.btor2.specs.declared.table.Makes.the-variants.{Sort, Input, Value, Root}
-use Rattle.btor2.specs.declared.table.Rule.the-variants as rule
-use Rattle.btor2.specs.declared.names.Operand.{Operand}
-use Rattle.btor2.specs.Lines.{Token, token, tokens}
-use Rattle.btor2.specs.Words.{Word, sort, input, zeros, one, ones, const, constd, consth, inv, conj, disj, xor, add, sub, mul, sll, srl, sra, eq, neq, ult, slt, ite, concat, slice, uext, sext, constraint, other, numberOf, wordOf, shape}
-use Rattle.btor2.specs.Format.{Ref, Constant, isConstant, constantOf, unsigned, constantPlace, refPlace, refsFrom, Item, itemOf, item}
-use Rattle.btor2.specs.Nodes.{operator, constantNode, variableNode, invert, constantValue, fits, own}
-use Rattle.btor2.specs.Conversion.{Table, State, start, known, at, widthIn, operandOf, operands, nots, placed, widthOf, anyUnknown, sortUnknown, newNodes, nodeFor, isRoot, withRoot, naming, added, after, lineFault, afterLine}
-use Rattle.btor2.specs.inner.Spelled.{ruleOf, constantFits}
+use Rattle.lines.specs.declared.table.Makes.{Makes}
+use Rattle.lines.specs.declared.table.Makes.the-variants.{Sort, Input, Value, Root}
+use Rattle.spelling.specs.declared.forms.Rule.the-variants as rule
+use Rattle.spelling.specs.declared.line.Operand.{Operand}
+use Rattle.lines.specs.Lines.{Token, token, tokens}
+use Rattle.lines.specs.Words.{Word, sort, input, zeros, one, ones, const, constd, consth, inv, conj, disj, xor, add, sub, mul, sll, srl, sra, eq, neq, ult, slt, ite, concat, slice, uext, sext, constraint, other, numberOf, wordOf, shape}
+use Rattle.lines.specs.Format.{Ref, Constant, isConstant, constantOf, unsigned, constantPlace, refPlace, refsFrom, Item, itemOf, item}
+use Rattle.spelling.specs.Nodes.{operator, constantNode, variableNode, invert, constantValue, fits, own, nots, placed, isRoot}
+use Rattle.btor2.specs.Conversion.{Table, State, start, known, at, widthIn, operandOf, operands, widthOf, anyUnknown, sortUnknown, newNodes, nodeFor, withRoot, naming, added, after, lineFault, afterLine}
+use Rattle.spelling.specs.inner.Spelled.{ruleOf, constantFits}
 use Rattle.btor2.specs.laws.Reached.{Reached, begin, more}
-use Rattle.btor2.specs.laws.Constant.{constant-below}
+use Rattle.spelling.specs.laws.Constant.{constant-below}
 use Rattle.btor2.specs.laws.Passed.{Formed, Passes, passes}
 use Rattle.btor2.specs.laws.Sound.{AllWide, wide-at, Sound, reached-sound, Role, makes-sort, makes-input, makes-a-value, makes-a-root, role}
 use Rattle.btor2.specs.laws.Read.{const-word, const-fits, base-some}

@@ -7,9 +7,9 @@ use native.Mathlib.Omega.{arith}
 use lib.Dec.{eqb, ltb, leb}
 use lib.ListN.{length, getD}
 use borrow.Author.Tests.{eq-eqb, ne-eqb, eqb-true, eqb-false}
-use Rattle.btor2.specs.Lines.{tokens}
+use Rattle.lines.specs.Lines.{tokens}
 use Rattle.btor2.specs.Conversion.{Table, known, at}
-use Rattle.btor2.specs.inner.Told.{idOf, findLine}
+use Rattle.lines.specs.inner.Told.{idOf, findLine}
 
 -- ---- tables
 

@@ -3,7 +3,6 @@ use mathlib.Core.Path.{_≡_, refl, sym, ap, _∙_}
 use mathlib.Core.Bool.{Bool, true, false, cond, not, false≢true}
 use mathlib.Core.Logic.{⊎-elim}
 use Rattle.words.specs.laws.Bits.{lt-or-ge}
-use native.Mathlib.Nat.{zero-add}
 use mathlib.Core.List.{List, [], _∷_, _++_}
 use Prim.Native.Nat.{ℕ, zero, suc, _+_, _-_, _*_, _^_, _≤_, _<_}
 use native.Mathlib.Omega.{arith}
@@ -22,21 +21,23 @@ use Rattle.btor2.specs.declared.take.Taken.{Taken}
 use Rattle.btor2.specs.declared.take.Taken.the-variants.{Next, Fault}
 use Rattle.btor2.specs.declared.fold.Ended.{Ended}
 use Rattle.btor2.specs.declared.fold.Ended.the-variants.{Done, Stopped}
-use Rattle.btor2.specs.Lines.{Token, lines, kept, tokens}
-use Rattle.btor2.specs.Conversion.{State, start, size, known, at, lineFault, afterLine, Outcome, converted, refused, convertFrom, outcome, littleEndian, allNodes, allRoots, bytesOf}
+use Rattle.lines.specs.Lines.{Token, lines, kept, tokens}
+use Rattle.btor2.specs.Conversion.{State, start, size, known, at, lineFault, afterLine, Outcome, converted, refused, convertFrom, outcome, bytesOf}
+use Rattle.spelling.specs.Bytes.{littleEndian, allNodes, allRoots}
 use Rattle.btor2.specs.Answer as answers
 use Rattle.btor2.specs.Answer.{Answers, Converts}
 use Rattle.btor2.specs.inner.Kept.{Rising, Named, SortsKept, SortNoted, same, noted}
 use Rattle.btor2.specs.inner.Taking.{Lengths, Aside, Fits, Kept, Stepped, next, fault}
-use Rattle.btor2.specs.inner.Folding.{headerBytes, Holds, Ends, done, stopped, Wrote}
-use Rattle.btor2.specs.laws.Text.{lines-last, lines-more, Begins, begins-next}
+use Rattle.spelling.specs.inner.Written.{headerBytes, Wrote}
+use Rattle.btor2.specs.inner.Folding.{Holds, Ends, done, stopped}
+use Rattle.lines.specs.laws.Text.{lines-last, lines-more, Begins, begins-next}
 use Rattle.btor2.specs.laws.Reached.{Reached, begin, more, fold-more, fold-stops}
 use Rattle.btor2.specs.laws.Passed.{passes}
 use Rattle.btor2.specs.laws.Sound.{start-sound, reached-sound}
 use Rattle.btor2.specs.laws.Sorts.{sorts-none, sorts-noted}
 use Rattle.btor2.specs.laws.Step.{named-of}
-use Rattle.btor2.specs.laws.Byte.{sets-append, Run, then-put, length-bytes}
-use Rattle.btor2.specs.laws.Take.{roots-long}
+use Rattle.spelling.specs.laws.Byte.{sets-append, Run, then-put, length-bytes}
+use Rattle.spelling.specs.laws.Written.{roots-long}
 
 -- what is left to be folded, after so many lines
 pub record Folded (room : ℕ) (text : List ℕ) (passed : ℕ) (n : Counts) (bytes ids places rooted : List ℕ) : Type 0 where
@@ -187,25 +188,9 @@ module _ {room : ℕ} {text : List ℕ} {passed : ℕ} {n : Counts} {bytes ids p
 
 -- ---- bytes
 
-header-long : (nodes roots : ℕ) → length (headerBytes nodes roots) ≡ 9
-unfolding headerBytes littleEndian
-header-long nodes roots = refl
-
 header-mark : (nodes roots : ℕ) → headerBytes nodes roots ≡ 84 ∷ 66 ∷ 86 ∷ littleEndian 2 1 ++ littleEndian 2 nodes ++ littleEndian 2 roots
 unfolding headerBytes littleEndian
 header-mark nodes roots = refl
-
-pub write-run : (out l₁ l₂ l₃ bytes rooted : List ℕ) (nodes roots : ℕ)
-    → 24 * nodes ≤ length bytes
-    → l₁ ≡ sets out 0 (headerBytes nodes roots)
-    → l₂ ≡ sets l₁ 9 (take (24 * nodes) bytes)
-    → l₃ ≡ sets l₂ (9 + 24 * nodes) (allRoots (take roots rooted))
-    → l₃ ≡ sets out 0 (headerBytes nodes roots ++ take (24 * nodes) bytes ++ allRoots (take roots rooted))
-write-run out l₁ l₂ l₃ bytes rooted nodes roots h e f g =
-    let r₁ : Run out 0 9 l₁ (headerBytes nodes roots) = record { filled = e; long = header-long nodes roots } in
-    let r₂ : Run l₁ (0 + 9) (24 * nodes) l₂ (take (24 * nodes) bytes) = record { filled = f; long = length-take-le (24 * nodes) bytes h } in
-    let r₃ : Run l₂ (0 + (9 + 24 * nodes)) (length (allRoots (take roots rooted))) l₃ (allRoots (take roots rooted)) = record { filled = g ∙ rw (zero-add (9 + 24 * nodes)); long = refl } in
-    then-put l₃ (then-put l₂ r₁ r₂) r₃ .filled
 
 bytes-are : {room : ℕ} (σ : State) (bytes rooted : List ℕ) (n : Counts) → Holds room σ bytes rooted n
     → headerBytes (n .nodes) (n .roots) ++ take (24 * n .nodes) bytes ++ allRoots (take (n .roots) rooted) ≡ bytesOf σ

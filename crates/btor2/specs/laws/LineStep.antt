@@ -12,20 +12,21 @@ use Rattle.words.specs.laws.Bits.{lt-or-ge}
 use lib.Seq.{sets, length-sets, getD-take, getD-append-add}
 use borrow.Author.Tests.{eq-eqb, ne-eqb, eqb-true, eqb-false, ltb-false, ltb-true, le-ltb, lt-ltb, leb-false}
 use Rattle.problem.specs.declared.layout.Node.{Node}
-use Rattle.btor2.specs.declared.table.Makes.{Makes}
-use Rattle.btor2.specs.declared.table.Makes.the-variants.{Sort, Input, Value, Root}
-use Rattle.btor2.specs.declared.read.Line.{Line}
+use Rattle.lines.specs.declared.table.Makes.{Makes}
+use Rattle.lines.specs.declared.table.Makes.the-variants.{Sort, Input, Value, Root}
+use Rattle.spelling.specs.declared.line.Line.{Line}
 use Rattle.btor2.specs.declared.take.Counts.{Counts}
 use Rattle.btor2.specs.declared.take.Taken.{Taken}
 use Rattle.btor2.specs.declared.take.Taken.the-variants.{Next, Fault}
-use Rattle.btor2.specs.Lines.{Token, token, tokens}
-use Rattle.btor2.specs.Words.{numberOf, wordOf, shape}
-use Rattle.btor2.specs.Format.{formatFault, Item, itemOf, item}
-use Rattle.btor2.specs.Conversion.{State, known, at, widthIn, anyUnknown, sortUnknown, newNodes, nodeFor, naming, added, after, tooMuch, idFault, misfit, lineFault, afterLine, allNodes, nodeBytes, kindBytes, littleEndian}
-use Rattle.btor2.specs.Nodes.{invert}
-use Rattle.btor2.specs.inner.Told.{idOf, findLine, isAlias}
+use Rattle.lines.specs.Lines.{Token, token, tokens}
+use Rattle.lines.specs.Words.{numberOf, wordOf, shape}
+use Rattle.lines.specs.Format.{formatFault, Item, itemOf, item}
+use Rattle.btor2.specs.Conversion.{State, known, at, widthIn, anyUnknown, sortUnknown, newNodes, nodeFor, naming, added, after, tooMuch, idFault, misfit, lineFault, afterLine}
+use Rattle.spelling.specs.Bytes.{allNodes, nodeBytes, kindBytes, littleEndian}
+use Rattle.spelling.specs.Nodes.{invert}
+use Rattle.lines.specs.inner.Told.{idOf, findLine, isAlias}
 use Rattle.btor2.specs.inner.Kept.{Rising, Named, Seen}
-use Rattle.btor2.specs.inner.Spelled.{countRead, newRead, standingFor, fitsRead}
+use Rattle.spelling.specs.inner.Spelled.{countRead, newRead, standingFor, fitsRead}
 use Rattle.btor2.specs.inner.Read.{Read}
 use Rattle.btor2.specs.inner.Taking.{unknownRead, overfull, rootsAfter, addsName, NamedIf, RootIf, standing, rootsWith, Placed, full, put, Fits, Kept, Stepped, next, fault}
 use Rattle.btor2.specs.inner.Taking as taking
@@ -33,9 +34,9 @@ use Rattle.btor2.specs.laws.Reached.{Reached, more}
 use Rattle.btor2.specs.laws.Passed.{Formed, formed, or-both}
 use Rattle.btor2.specs.laws.Alias.{alias-empty}
 use Rattle.btor2.specs.laws.Sound.{AllWide, wide-at, Sound, reached-sound, Role, makes-sort, makes-input, makes-a-value, makes-a-root, role}
-use Rattle.btor2.specs.laws.Spell.{new-length}
+use Rattle.spelling.specs.laws.Spell.{new-length}
 use Rattle.btor2.specs.laws.Read.{id-is, unknown-is, width-most, misfit-is, new-is, standing-is}
-use Rattle.btor2.specs.laws.Take.{node-long, all-long}
+use Rattle.spelling.specs.laws.Written.{node-long, all-long}
 use Rattle.btor2.specs.laws.Place.{room-left}
 use Rattle.btor2.specs.laws.Step.{not-zero, line-format, line-unknown, line-misfit, line-full, line-passes, added-last, added-nodes, added-roots, roots-kept, bytes-kept, overfull-is, parts, names-same, names-also, names-more, rising-more, under-more}
 

@@ -17,10 +17,10 @@ use Rattle.operators.specs.laws.Meaning.{joined-lt, meaning-lt}
 use Rattle.operators.specs.Table.{kindOf}
 use Rattle.operators.specs.Table as kind
 use Rattle.problem.specs.declared.layout.Node.{Node}
-use Rattle.btor2.specs.declared.table.Makes.the-variants.{Value}
-use Rattle.btor2.specs.Words.{Word, sort, input, zeros, one, ones, const, constd, consth, inv, conj, disj, xor, add, sub, mul, sll, srl, sra, eq, neq, ult, slt, ite, concat, slice, uext, sext, constraint, other, shape}
-use Rattle.btor2.specs.Format.{Constant}
-use Rattle.btor2.specs.Nodes.{operator, constantNode, variableNode, invert, constantValue, fits, own}
+use Rattle.lines.specs.declared.table.Makes.the-variants.{Value}
+use Rattle.lines.specs.Words.{Word, sort, input, zeros, one, ones, const, constd, consth, inv, conj, disj, xor, add, sub, mul, sll, srl, sra, eq, neq, ult, slt, ite, concat, slice, uext, sext, constraint, other, shape}
+use Rattle.lines.specs.Format.{Constant}
+use Rattle.spelling.specs.Nodes.{operator, constantNode, variableNode, invert, constantValue, fits, own}
 use Rattle.btor2.specs.Conversion.{widthIn}
 use Rattle.btor2.specs.Meaning.{isMinus, moved, flipped, worth}
 use Rattle.evaluation.specs.Problem.{byKind}

@@ -11,18 +11,18 @@ use lib.ListN.{length, getD, drop, length-append, drop-of-length-le}
 use lib.Seq.{append-snoc, drop-drop, drop-append-seam, getD-drop, drop-length}
 use borrow.Author.Tests.{eqb-true, eqb-false, eq-eqb, ne-eqb, not-false}
 use Rattle.problem.specs.declared.layout.Node.{Node}
-use Rattle.btor2.specs.declared.table.Makes.{Makes}
-use Rattle.btor2.specs.declared.table.Makes.the-variants.{Sort, Input, Value, Root}
-use Rattle.btor2.specs.Lines.{Token, token, lines, tokens}
-use Rattle.btor2.specs.Words.{Word, numberOf, wordOf, shape}
-use Rattle.btor2.specs.Format.{Ref, refsFrom, Item, itemOf, item}
-use Rattle.btor2.specs.Nodes.{variableNode, invert, own}
-use Rattle.btor2.specs.Conversion.{Table, State, start, known, at, widthIn, operands, nots, placed, newNodes, nodeFor, withRoot, naming, added, after, sortUnknown, lineFault, afterLine, Outcome, converted, refused, convertFrom, outcome}
+use Rattle.lines.specs.declared.table.Makes.{Makes}
+use Rattle.lines.specs.declared.table.Makes.the-variants.{Sort, Input, Value, Root}
+use Rattle.lines.specs.Lines.{Token, token, lines, tokens}
+use Rattle.lines.specs.Words.{Word, numberOf, wordOf, shape}
+use Rattle.lines.specs.Format.{Ref, refsFrom, Item, itemOf, item}
+use Rattle.spelling.specs.Nodes.{variableNode, invert, own, nots, placed}
+use Rattle.btor2.specs.Conversion.{Table, State, start, known, at, widthIn, operands, newNodes, nodeFor, withRoot, naming, added, after, sortUnknown, lineFault, afterLine, Outcome, converted, refused, convertFrom, outcome}
 use Rattle.btor2.specs.Meaning.{Valued, nothing, World, sortOf, lineOf, operand, valueOf, valued, told, tellLine, tell, world, AllOne, Met}
 use Rattle.evaluation.specs.Problem.{byKind}
 use Rattle.btor2.specs.Inputs.{inputsOf, variableWidths, widthsBy, inputWidths}
 use Rattle.btor2.specs.inner.Values.{Gives, Kinds, Evaluated, Fitting}
-use Rattle.btor2.specs.inner.Told.{idOf}
+use Rattle.lines.specs.inner.Told.{idOf}
 use Rattle.btor2.specs.laws.Sorts.{added-sorts}
 use Rattle.btor2.specs.laws.Reached.{Reached, begin, more, fold-more, fold-stops, outcome-reached}
 use Rattle.btor2.specs.laws.Entry.{known-snoc-new, known-snoc-old, known-snoc-other, at-snoc-new, at-snoc-old, at-snoc-other}

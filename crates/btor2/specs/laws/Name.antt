@@ -10,14 +10,14 @@ use lib.ListN.{length, getD}
 use borrow.Author.Tests.{eq-eqb, ne-eqb, lt-ltb, le-ltb, ltb-true, ltb-false, eqb-true, eqb-false}
 use Rattle.words.specs.laws.Bits.{lt-or-ge}
 use Rattle.texts.specs.Numbers.{valueIn}
-use Rattle.btor2.specs.declared.names.Operand.{Operand}
-use Rattle.btor2.specs.Lines.{Token, token, tokens}
-use Rattle.btor2.specs.Format.{Ref, signed, unsigned, refOf}
+use Rattle.spelling.specs.declared.line.Operand.{Operand}
+use Rattle.lines.specs.Lines.{Token, token, tokens}
+use Rattle.lines.specs.Format.{Ref, signed, unsigned, refOf}
 use Rattle.btor2.specs.Conversion.{State, known, at, widthIn, operandOf}
-use Rattle.btor2.specs.inner.Told.{findLine, small, widthTold, isAlias, aliasOf}
+use Rattle.lines.specs.inner.Told.{findLine, small, widthTold, isAlias, aliasOf}
 use Rattle.btor2.specs.inner.Kept.{Rising, Lower, Beside, there, nowhere, Also, Named, Sorted, Seen, nodeNamed, lookedUp}
 use Rattle.btor2.specs.inner.Read.{operandIf, Operated}
-use Rattle.btor2.specs.laws.Text.{small-id}
+use Rattle.lines.specs.laws.Text.{small-id}
 
 -- ---- halving
 

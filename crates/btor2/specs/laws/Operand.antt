@@ -7,15 +7,15 @@ use native.Mathlib.Omega.{arith}
 use lib.Dec.{eqb, ltb, leb}
 use lib.ListN.{length, getD}
 use borrow.Author.Tests.{le-leb, lt-leb}
-use Rattle.btor2.specs.declared.names.Operand.{Operand}
-use Rattle.btor2.specs.declared.read.Operands.{Operands}
-use Rattle.btor2.specs.Lines.{Token, token}
-use Rattle.btor2.specs.Format.{Ref, refOf, refsFrom}
-use Rattle.btor2.specs.Nodes.{invert}
-use Rattle.btor2.specs.Conversion.{State, known, at, operandOf, operands, nots, placed, widthOf, anyUnknown}
+use Rattle.spelling.specs.declared.line.Operand.{Operand}
+use Rattle.spelling.specs.declared.line.Operands.{Operands}
+use Rattle.lines.specs.Lines.{Token, token}
+use Rattle.lines.specs.Format.{Ref, refOf, refsFrom}
+use Rattle.spelling.specs.Nodes.{invert, nots, placed}
+use Rattle.btor2.specs.Conversion.{State, known, at, operandOf, operands, widthOf, anyUnknown}
 use Rattle.btor2.specs.inner.Kept.{Named, lookedUp}
 use Rattle.btor2.specs.inner.Read.{blank, operandIf, Operated}
-use Rattle.btor2.specs.inner.Spelled.{oneIf, placedAt, threeOf, notsOf}
+use Rattle.spelling.specs.inner.Spelled.{oneIf, placedAt, threeOf, notsOf}
 use Rattle.btor2.specs.inner.Taking.{operandMissing}
 
 -- ---- which are known

@@ -8,13 +8,13 @@ use lib.Dec.{eqb, ltb, leb}
 use lib.ListN.{length, getD}
 use borrow.Author.Tests.{eq-eqb, ne-eqb, eqb-true, eqb-false, ltb-false, leb-false, not-false, not-true}
 use Rattle.texts.specs.Numbers.{valueIn}
-use Rattle.btor2.specs.Lines.{Token, token, tokens}
-use Rattle.btor2.specs.Words.{numberOf, wordOf, shape}
-use Rattle.btor2.specs.Format.{_orElse_, given, isId, isWord, isConstant, idWrong, sortFault, refsBad, numbersBad, constantBad, symbolBad, argumentsWrong, formatFault, refPlace, numberPlace, constantPlace, Item, itemOf, item}
-use Rattle.btor2.specs.Nodes.{fits}
+use Rattle.lines.specs.Lines.{Token, token, tokens}
+use Rattle.lines.specs.Words.{numberOf, wordOf, shape}
+use Rattle.lines.specs.Format.{_orElse_, given, isId, isWord, isConstant, idWrong, sortFault, refsBad, numbersBad, constantBad, symbolBad, argumentsWrong, formatFault, refPlace, numberPlace, constantPlace, Item, itemOf, item}
+use Rattle.spelling.specs.Nodes.{fits}
 use Rattle.btor2.specs.Conversion.{State, at, operands, widthOf, anyUnknown, sortUnknown, idFault, misfit, after, tooMuch, size, itemFault, lineFault, afterLine}
-use Rattle.btor2.specs.inner.Told.{idOf, small}
-use Rattle.btor2.specs.laws.Text.{small-id}
+use Rattle.lines.specs.inner.Told.{idOf, small}
+use Rattle.lines.specs.laws.Text.{small-id}
 
 -- ---- numbers that are not given
 

@@ -8,13 +8,13 @@ use lib.Dec.{ltb}
 use lib.ListN.{length, take}
 use lib.Seq.{sets}
 use borrow.Author.Tests.{ltb-false}
-use Rattle.btor2.specs.declared.table.Makes.{Makes}
-use Rattle.btor2.specs.declared.read.Line.{Line}
+use Rattle.lines.specs.declared.table.Makes.{Makes}
+use Rattle.spelling.specs.declared.line.Line.{Line}
 use Rattle.btor2.specs.declared.take.Counts.{Counts}
 use Rattle.btor2.specs.declared.take.Taken.the-variants.{Next}
-use Rattle.btor2.specs.Words.{shape, wordOf}
-use Rattle.btor2.specs.Conversion.{allNodes}
-use Rattle.btor2.specs.inner.Spelled.{countRead, newRead, standingFor}
+use Rattle.lines.specs.Words.{shape, wordOf}
+use Rattle.spelling.specs.Bytes.{allNodes}
+use Rattle.spelling.specs.inner.Spelled.{countRead, newRead, standingFor}
 use Rattle.btor2.specs.inner.Taking.{overfull, rootsAfter, addsName, NamedIf, RootIf, standing, rootsWith, Placed, put}
 use Rattle.btor2.specs.laws.Passed.{or-both}
 

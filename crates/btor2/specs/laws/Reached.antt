@@ -7,14 +7,14 @@ use native.Mathlib.Omega.{arith}
 use lib.Dec.{eqb, ltb}
 use borrow.Author.Tests.{eqb-true, eqb-false, ltb-true, ltb-false, ne-eqb, eq-eqb}
 use Rattle.texts.specs.Numbers.{valueIn}
-use Rattle.btor2.specs.declared.table.Makes.{Makes}
-use Rattle.btor2.specs.declared.table.Makes.the-variants.{Sort, Input, Value, Root}
+use Rattle.lines.specs.declared.table.Makes.{Makes}
+use Rattle.lines.specs.declared.table.Makes.the-variants.{Sort, Input, Value, Root}
 use lib.Seq.{append-snoc}
-use Rattle.btor2.specs.Lines.{Token, token, lines, tokens}
+use Rattle.lines.specs.Lines.{Token, token, lines, tokens}
 use Rattle.texts.specs.Runs.{ascii, equal}
-use Rattle.btor2.specs.Words.{Word, names, indexOf, numberOf, wordOf, shape}
-use Rattle.btor2.specs.laws.Word.{makes-value, makes-root}
-use Rattle.btor2.specs.Format.{Item, itemOf, item}
+use Rattle.lines.specs.Words.{Word, names, indexOf, numberOf, wordOf, shape}
+use Rattle.lines.specs.laws.Word.{makes-value, makes-root}
+use Rattle.lines.specs.Format.{Item, itemOf, item}
 use Rattle.btor2.specs.Conversion.{State, start, Table, naming, added, after, lineFault, afterLine, Outcome, converted, refused, convertFrom, outcome}
 
 pub data Reached (room : ℕ) : List (List ℕ) → State → Type 0 where

@@ -8,33 +8,33 @@ use lib.Dec.{T, eqb, ltb, leb, ltb→lt}
 use lib.ListN.{length, getD}
 use lib.Pow.{pow-pos, le-ones, lt-of-le-ones}
 use borrow.Author.Tests.{eq-eqb, ne-eqb, eqb-true, eqb-false, leb-true, leb-false, le-leb, lt-leb, lt-ltb, le-ltb, ltb-true, ltb-false}
-use Rattle.operators.specs.laws.Table.{or-right}
 use Rattle.words.specs.laws.Cases.{every, every-at}
 use Rattle.texts.specs.Numbers.{valueIn}
 use Rattle.texts.specs.laws.Runs.{both-true}
-use Rattle.btor2.specs.declared.table.Makes.{Makes}
-use Rattle.btor2.specs.declared.table.Makes.the-variants.{Sort, Input, Value, Root}
-use Rattle.btor2.specs.declared.table.Rule.{Rule}
-use Rattle.btor2.specs.declared.table.Rule.the-variants as rule
-use Rattle.btor2.specs.declared.table.Form.{Form}
-use Rattle.btor2.specs.declared.table.Form.the-variants as form
-use Rattle.btor2.specs.declared.names.Operand.{Operand}
-use Rattle.btor2.specs.declared.read.Operands.{Operands}
-use Rattle.btor2.specs.declared.read.Line.{Line}
-use Rattle.btor2.specs.Lines.{Token, token}
-use Rattle.btor2.specs.Words.{numberOf, wordOf, shape}
-use Rattle.btor2.specs.Format.{Ref, Constant, signed, unsigned, isConstant, constantOf, refPlace, numberPlace, constantPlace, refsFrom, Item, itemOf, item}
-use Rattle.btor2.specs.Nodes.{constantValue, fits, own}
-use Rattle.btor2.specs.Conversion.{State, known, at, widthIn, operandOf, operands, nots, placed, widthOf, anyUnknown, sortUnknown, idFault, misfit, newNodes, nodeFor}
-use Rattle.btor2.specs.inner.Told.{idOf, small}
+use Rattle.lines.specs.declared.table.Makes.{Makes}
+use Rattle.lines.specs.declared.table.Makes.the-variants.{Sort, Input, Value, Root}
+use Rattle.spelling.specs.declared.forms.Rule.{Rule}
+use Rattle.spelling.specs.declared.forms.Rule.the-variants as rule
+use Rattle.spelling.specs.declared.forms.Form.{Form}
+use Rattle.spelling.specs.declared.forms.Form.the-variants as form
+use Rattle.spelling.specs.declared.line.Operand.{Operand}
+use Rattle.spelling.specs.declared.line.Operands.{Operands}
+use Rattle.spelling.specs.declared.line.Line.{Line}
+use Rattle.lines.specs.Lines.{Token, token}
+use Rattle.lines.specs.Words.{numberOf, wordOf, shape}
+use Rattle.lines.specs.Format.{Ref, Constant, signed, unsigned, isConstant, constantOf, refPlace, numberPlace, constantPlace, refsFrom, Item, itemOf, item}
+use Rattle.spelling.specs.Nodes.{constantValue, fits, own, nots, placed}
+use Rattle.btor2.specs.Conversion.{State, known, at, widthIn, operandOf, operands, widthOf, anyUnknown, sortUnknown, idFault, misfit, newNodes, nodeFor}
+use Rattle.lines.specs.inner.Told.{idOf, small}
 use Rattle.btor2.specs.inner.Kept.{Named, Sorted}
-use Rattle.btor2.specs.inner.Spelled.{ruleOf, ruleFits, short, mostOf, constantFits, formOf, kindFor, spelledBy, oneIf, placedAt, threeOf, notsOf, countRead, newRead, standingFor, fitsRead}
-use Rattle.btor2.specs.inner.Read.{blank, operandIf, Operated, Told, Literally, Read}
+use Rattle.spelling.specs.inner.Spelled.{ruleOf, ruleFits, short, mostOf, constantFits, formOf, kindFor, spelledBy, oneIf, placedAt, threeOf, notsOf, countRead, newRead, standingFor, fitsRead}
+use Rattle.btor2.specs.inner.Read.{blank, operandIf, Operated, Read}
+use Rattle.spelling.specs.inner.Constants.{Told, Literally}
 use Rattle.btor2.specs.inner.Taking.{sortMissing, operandMissing, unknownRead}
-use Rattle.btor2.specs.laws.Text.{small-id}
-use Rattle.btor2.specs.laws.Word.{few-refs}
-use Rattle.btor2.specs.laws.Spell.{nots-length, new-length}
-use Rattle.btor2.specs.laws.Rule.{short-same, fits-rule, toldBy, Fields, own-spelled}
+use Rattle.lines.specs.laws.Text.{small-id}
+use Rattle.lines.specs.laws.Word.{few-refs}
+use Rattle.spelling.specs.laws.Spell.{nots-length, new-length}
+use Rattle.spelling.specs.laws.Rule.{short-same, fits-rule, toldBy, Fields, own-spelled}
 use Rattle.btor2.specs.laws.Operand.{missing-is, Padded, padded}
 use Rattle.btor2.specs.laws.Passed.{Formed}
 use Rattle.btor2.specs.laws.Sound.{AllWide, wide-at, Sound, Role, makes-sort, makes-input, makes-a-value, makes-a-root, role}

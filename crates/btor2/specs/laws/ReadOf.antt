@@ -7,17 +7,18 @@ use native.Mathlib.Omega.{arith}
 use lib.Dec.{ltb}
 use borrow.Author.Tests.{ltb-false}
 use Rattle.texts.specs.Numbers.{valueIn}
-use Rattle.btor2.specs.declared.table.Makes.{Makes}
-use Rattle.btor2.specs.declared.constants.Literal.{Literal}
-use Rattle.btor2.specs.declared.read.Operands.{Operands}
-use Rattle.btor2.specs.Lines.{Token, token}
-use Rattle.btor2.specs.Words.{numberOf, wordOf, shape}
-use Rattle.btor2.specs.Format.{refStart, sortNamed, itemOf, item}
+use Rattle.lines.specs.declared.table.Makes.{Makes}
+use Rattle.spelling.specs.declared.constants.Literal.{Literal}
+use Rattle.spelling.specs.declared.line.Operands.{Operands}
+use Rattle.lines.specs.Lines.{Token, token}
+use Rattle.lines.specs.Words.{numberOf, wordOf, shape}
+use Rattle.lines.specs.Format.{refStart, sortNamed, itemOf, item}
 use Rattle.btor2.specs.Conversion.{State, at}
-use Rattle.btor2.specs.inner.Told.{idOf, small}
+use Rattle.lines.specs.inner.Told.{idOf, small}
 use Rattle.btor2.specs.inner.Kept.{Sorted}
-use Rattle.btor2.specs.inner.Spelled.{short}
-use Rattle.btor2.specs.inner.Read.{Operated, Literally, Read}
+use Rattle.spelling.specs.inner.Spelled.{short}
+use Rattle.btor2.specs.inner.Read.{Operated, Read}
+use Rattle.spelling.specs.inner.Constants.{Literally}
 
 -- an id that 64 bits do not hold names no sort, as 0 does
 sort-small : {σ : State} {ls : List (List ℕ)} → Sorted σ ls → (id : ℕ) → at (small id) (σ .sorts) ≡ at id (σ .sorts)

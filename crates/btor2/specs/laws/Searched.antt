@@ -20,7 +20,7 @@ use Rattle.evaluation.specs.Values.{VariablesAgree}
 use Rattle.evaluation.specs.Values as run
 use Rattle.evaluation.specs.laws.Nodes.{Which, variable, constant, inner, which, kind-own, kind-constant, kind-inner}
 use Rattle.evaluation.specs.laws.Readings.{gives-value, constant-value}
-use Rattle.btor2.specs.Nodes.{operator, variableNode, constantNode, invert}
+use Rattle.spelling.specs.Nodes.{operator, variableNode, constantNode, invert}
 use Rattle.btor2.specs.Conversion.{State, widthIn, bytesOf}
 use Rattle.btor2.specs.Meaning.{AllOne}
 use Rattle.btor2.specs.Inputs.{inputsOf, variableWidths}

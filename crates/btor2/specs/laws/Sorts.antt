@@ -8,13 +8,13 @@ use lib.Dec.{eqb, leb}
 use lib.ListN.{length, getD, set}
 use lib.Seq.{getD-set-same, getD-set-other}
 use borrow.Author.Tests.{eqb-true, eqb-false, leb-false, lt-ltb}
-use Rattle.btor2.specs.declared.table.Makes.{Makes}
-use Rattle.btor2.specs.declared.table.Makes.the-variants.{Sort, Input, Value, Root}
-use Rattle.btor2.specs.Lines.{Token, token, tokens}
+use Rattle.lines.specs.declared.table.Makes.{Makes}
+use Rattle.lines.specs.declared.table.Makes.the-variants.{Sort, Input, Value, Root}
+use Rattle.lines.specs.Lines.{Token, token, tokens}
 use Rattle.texts.specs.Numbers.{valueIn}
-use Rattle.btor2.specs.Format.{Item, item, itemOf}
+use Rattle.lines.specs.Format.{Item, item, itemOf}
 use Rattle.btor2.specs.Conversion.{Table, State, start, known, at, naming, added, after, lineFault, afterLine}
-use Rattle.btor2.specs.inner.Told.{idOf, findLine, small, widthTold}
+use Rattle.lines.specs.inner.Told.{idOf, findLine, small, widthTold}
 use Rattle.btor2.specs.inner.Kept.{Sorted, SortsKept, WidthKept, there, nowhere, SortNoted, same, noted}
 use Rattle.btor2.specs.laws.Reached.{Reached, more}
 use Rattle.btor2.specs.laws.Entry.{known-snoc-old, at-snoc-old, at-unknown, find-new}

@@ -12,17 +12,17 @@ use borrow.Author.Tests.{eq-eqb, ne-eqb, eqb-true, eqb-false, leb-true, lt-ltb, 
 use Rattle.texts.specs.Runs.{ascii, equal, split}
 use Rattle.texts.specs.laws.Runs.{both-true}
 use Rattle.texts.specs.Numbers.{valueFrom, valueIn}
-use Rattle.btor2.specs.declared.table.Makes.{Makes}
-use Rattle.btor2.specs.declared.table.Makes.the-variants.{Sort, Input, Value, Root}
-use Rattle.btor2.specs.Lines.{Token, token, kept, tokens}
+use Rattle.lines.specs.declared.table.Makes.{Makes}
+use Rattle.lines.specs.declared.table.Makes.the-variants.{Sort, Input, Value, Root}
+use Rattle.lines.specs.Lines.{Token, token, kept, tokens}
 use Rattle.problem.specs.declared.layout.Node.{Node}
-use Rattle.btor2.specs.Words.{Word, sort, input, zeros, one, ones, const, constd, consth, inv, conj, disj, xor, add, sub, mul, sll, srl, sra, eq, neq, ult, slt, ite, concat, slice, uext, sext, constraint, other, names, indexOf, numberOf, wordOf, shape}
-use Rattle.btor2.specs.Format.{Ref, Constant, Item, itemOf, item}
-use Rattle.btor2.specs.Nodes.{fits, own, operator, constantNode, invert}
-use Rattle.btor2.specs.Conversion.{State, start, known, at, widthIn, operandOf, operands, nots, newNodes, nodeFor, naming, added, after, withRoot, lineFault, afterLine}
-use Rattle.btor2.specs.inner.Told.{idOf, findLine, narrow, widthTold, isAlias}
+use Rattle.lines.specs.Words.{Word, sort, input, zeros, one, ones, const, constd, consth, inv, conj, disj, xor, add, sub, mul, sll, srl, sra, eq, neq, ult, slt, ite, concat, slice, uext, sext, constraint, other, names, indexOf, numberOf, wordOf, shape}
+use Rattle.lines.specs.Format.{Ref, Constant, Item, itemOf, item}
+use Rattle.spelling.specs.Nodes.{fits, own, operator, constantNode, invert, nots}
+use Rattle.btor2.specs.Conversion.{State, start, known, at, widthIn, operandOf, operands, newNodes, nodeFor, naming, added, after, withRoot, lineFault, afterLine}
+use Rattle.lines.specs.inner.Told.{idOf, findLine, narrow, widthTold, isAlias}
 use Rattle.btor2.specs.inner.Kept.{Also, Sorted}
-use Rattle.btor2.specs.laws.Word.{makes-value, makes-root}
+use Rattle.lines.specs.laws.Word.{makes-value, makes-root}
 use Rattle.btor2.specs.laws.Reached.{Reached, begin, more}
 use Rattle.btor2.specs.laws.Entry.{known-snoc-new, known-snoc-old, known-snoc-other, at-snoc-new, at-snoc-old, at-snoc-other, at-unknown, AllBelow, below-mono, below-snoc, find-other, find-new, find-none}
 use Rattle.btor2.specs.laws.Passed.{Passes, passes}

@@ -12,20 +12,21 @@ use lib.Seq.{sets, length-sets, take-suc-set, getD-set-same, getD-set-other}
 use borrow.Author.Tests.{eq-eqb, ne-eqb, eqb-true, eqb-false, ltb-false, ltb-true, le-ltb}
 use Rattle.words.specs.laws.Bits.{lt-or-ge}
 use Rattle.problem.specs.declared.layout.Node.{Node}
-use Rattle.btor2.specs.declared.table.Makes.{Makes}
-use Rattle.btor2.specs.declared.table.Makes.the-variants.{Sort, Input, Value, Root}
-use Rattle.btor2.specs.declared.read.Line.{Line}
+use Rattle.lines.specs.declared.table.Makes.{Makes}
+use Rattle.lines.specs.declared.table.Makes.the-variants.{Sort, Input, Value, Root}
+use Rattle.spelling.specs.declared.line.Line.{Line}
 use Rattle.btor2.specs.declared.take.Counts.{Counts}
 use Rattle.btor2.specs.declared.take.Taken.{Taken}
 use Rattle.btor2.specs.declared.take.Taken.the-variants.{Next, Fault}
-use Rattle.btor2.specs.Lines.{Token, token, kept, tokens}
-use Rattle.btor2.specs.Words.{numberOf, wordOf, shape}
-use Rattle.btor2.specs.Format.{_orElse_, given, formatFault, refsFrom, Item, itemOf, item}
-use Rattle.btor2.specs.Nodes.{own}
-use Rattle.btor2.specs.Conversion.{State, known, at, operands, nots, placed, newNodes, nodeFor, isRoot, withRoot, naming, added, after, size, tooMuch, idFault, misfit, itemFault, lineFault, afterLine, allNodes}
-use Rattle.btor2.specs.inner.Told.{idOf, findLine, isAlias}
+use Rattle.lines.specs.Lines.{Token, token, kept, tokens}
+use Rattle.lines.specs.Words.{numberOf, wordOf, shape}
+use Rattle.lines.specs.Format.{_orElse_, given, formatFault, refsFrom, Item, itemOf, item}
+use Rattle.spelling.specs.Nodes.{own, nots, placed, isRoot}
+use Rattle.btor2.specs.Conversion.{State, known, at, operands, newNodes, nodeFor, withRoot, naming, added, after, size, tooMuch, idFault, misfit, itemFault, lineFault, afterLine}
+use Rattle.spelling.specs.Bytes.{allNodes}
+use Rattle.lines.specs.inner.Told.{idOf, findLine, isAlias}
 use Rattle.btor2.specs.inner.Kept.{Rising, Named}
-use Rattle.btor2.specs.inner.Spelled.{countRead, newRead, standingFor, fitsRead}
+use Rattle.spelling.specs.inner.Spelled.{countRead, newRead, standingFor, fitsRead}
 use Rattle.btor2.specs.inner.Read.{Read}
 use Rattle.btor2.specs.inner.Taking as taking
 use Rattle.btor2.specs.inner.Taking.{unknownRead, overfull, rootsAfter, addsName, NamedIf, RootIf, standing, rootsWith, Placed, full, put, Fits, Kept, Stepped, next, fault}
@@ -34,9 +35,9 @@ use Rattle.btor2.specs.laws.Entry.{known-snoc-new, known-snoc-old, known
 use Rattle.btor2.specs.laws.Passed.{else-first, else-second, Formed, formed}
 use Rattle.btor2.specs.laws.Alias.{alias-empty}
 use Rattle.btor2.specs.laws.Sound.{Sound, reached-sound, Role, makes-sort, makes-input, makes-a-value, makes-a-root, role, find-blank}
-use Rattle.btor2.specs.laws.Spell.{new-length}
+use Rattle.spelling.specs.laws.Spell.{new-length}
 use Rattle.btor2.specs.laws.Read.{id-is, unknown-is, width-most, misfit-is, new-is, standing-is}
-use Rattle.btor2.specs.laws.Take.{all-long, all-append, prefix-grows}
+use Rattle.spelling.specs.laws.Written.{all-long, all-append, prefix-grows}
 use Rattle.btor2.specs.laws.Place.{room-left}
 
 -- ---- lines without tokens

@@ -11,18 +11,18 @@ use lib.ListN.{length, getD, drop, length-append, List·getD-append, length-drop
 use lib.Seq.{append-snoc, getD-append-add, getD-append-seam, drop-drop, drop-append-seam, getD-drop}
 use borrow.Author.Tests.{eqb-true, eqb-false, eq-eqb, ne-eqb, not-false}
 use Rattle.problem.specs.declared.layout.Node.{Node}
-use Rattle.btor2.specs.declared.table.Makes.{Makes}
-use Rattle.btor2.specs.declared.table.Makes.the-variants.{Sort, Input, Value, Root}
-use Rattle.btor2.specs.declared.names.Operand.{Operand}
-use Rattle.btor2.specs.Lines.{Token, token, tokens}
-use Rattle.btor2.specs.Words.{Word, numberOf, wordOf, shape}
-use Rattle.btor2.specs.Format.{Ref, Constant, Item, itemOf, item}
-use Rattle.btor2.specs.Nodes.{operator, constantNode, variableNode, invert, constantValue, fits, own}
-use Rattle.btor2.specs.Conversion.{Table, State, known, at, widthIn, operandOf, operands, nots, placed, widthOf, anyUnknown, newNodes, nodeFor, isRoot, withRoot, naming, added, after}
+use Rattle.lines.specs.declared.table.Makes.{Makes}
+use Rattle.lines.specs.declared.table.Makes.the-variants.{Sort, Input, Value, Root}
+use Rattle.spelling.specs.declared.line.Operand.{Operand}
+use Rattle.lines.specs.Lines.{Token, token, tokens}
+use Rattle.lines.specs.Words.{Word, numberOf, wordOf, shape}
+use Rattle.lines.specs.Format.{Ref, Constant, Item, itemOf, item}
+use Rattle.spelling.specs.Nodes.{operator, constantNode, variableNode, invert, constantValue, fits, own, nots, placed, isRoot}
+use Rattle.btor2.specs.Conversion.{Table, State, known, at, widthIn, operandOf, operands, widthOf, anyUnknown, newNodes, nodeFor, withRoot, naming, added, after}
 use Rattle.btor2.specs.Meaning.{isMinus, moved, flipped, worth, Valued, nothing, World, sortOf, lineOf, under, operand, valueOf, valued, told, AllOne}
 use Rattle.evaluation.specs.Problem.{byKind}
 use Rattle.btor2.specs.Inputs.{inputsOf}
-use Rattle.btor2.specs.inner.Told.{idOf}
+use Rattle.lines.specs.inner.Told.{idOf}
 use Rattle.btor2.specs.laws.Meant.{StandsIn, AtIn}
 use Rattle.btor2.specs.laws.Chain.{known-first, known-rest}
 use Rattle.btor2.specs.laws.Entry.{known-snoc-new, known-snoc-old, known-snoc-other, at-snoc-new, at-snoc-old, at-snoc-other, at-unknown}

@@ -13,22 +13,22 @@ use lib.Seq.{append-snoc, getD-append-add, getD-append-seam, drop-drop, drop-app
 use borrow.Author.Tests.{eqb-true, eqb-false, eq-eqb, ne-eqb, not-false, ltb-false, ltb-true}
 use Rattle.operators.specs.Meaning.{flag, choose}
 use Rattle.problem.specs.declared.layout.Node.{Node}
-use Rattle.btor2.specs.declared.table.Makes.{Makes}
-use Rattle.btor2.specs.declared.table.Makes.the-variants.{Sort, Input, Value, Root}
-use Rattle.btor2.specs.declared.names.Operand.{Operand}
-use Rattle.btor2.specs.Lines.{Token, token, tokens}
-use Rattle.btor2.specs.Words.{Word, sort, input, zeros, one, ones, const, constd, consth, inv, conj, disj, xor, add, sub, mul, sll, srl, sra, eq, neq, ult, slt, ite, concat, slice, uext, sext, constraint, other, numberOf, wordOf, shape}
-use Rattle.btor2.specs.Format.{Ref, refOf, refsFrom, Constant, isConstant, constantOf, constantPlace, Item, itemOf, item}
-use Rattle.btor2.specs.Nodes.{operator, constantNode, variableNode, invert, constantValue, fits, own}
-use Rattle.btor2.specs.Conversion.{Table, State, known, at, widthIn, operandOf, operands, nots, placed, widthOf, anyUnknown, newNodes, nodeFor, isRoot, withRoot, naming, added, after}
+use Rattle.lines.specs.declared.table.Makes.{Makes}
+use Rattle.lines.specs.declared.table.Makes.the-variants.{Sort, Input, Value, Root}
+use Rattle.spelling.specs.declared.line.Operand.{Operand}
+use Rattle.lines.specs.Lines.{Token, token, tokens}
+use Rattle.lines.specs.Words.{Word, sort, input, zeros, one, ones, const, constd, consth, inv, conj, disj, xor, add, sub, mul, sll, srl, sra, eq, neq, ult, slt, ite, concat, slice, uext, sext, constraint, other, numberOf, wordOf, shape}
+use Rattle.lines.specs.Format.{Ref, refOf, refsFrom, Constant, isConstant, constantOf, constantPlace, Item, itemOf, item}
+use Rattle.spelling.specs.Nodes.{operator, constantNode, variableNode, invert, constantValue, fits, own, nots, placed, isRoot}
+use Rattle.btor2.specs.Conversion.{Table, State, known, at, widthIn, operandOf, operands, widthOf, anyUnknown, newNodes, nodeFor, withRoot, naming, added, after}
 use Rattle.btor2.specs.Meaning.{isMinus, moved, flipped, worth, Valued, nothing, World, sortOf, lineOf, under, operand, valueOf, valued, told, AllOne}
 use Rattle.evaluation.specs.Problem.{byKind}
 use Rattle.btor2.specs.Inputs.{inputsOf, variableWidths}
 use Rattle.btor2.specs.inner.Values.{Gives, Kinds, Evaluated, Fitting}
-use Rattle.btor2.specs.inner.Told.{idOf}
-use Rattle.btor2.specs.inner.Spelled.{formOf, ownCount}
+use Rattle.lines.specs.inner.Told.{idOf}
+use Rattle.spelling.specs.inner.Spelled.{formOf, ownCount}
 use Rattle.btor2.specs.laws.Entry.{known-snoc-new, known-snoc-old, known-snoc-other, at-snoc-new, at-snoc-old, at-snoc-other, at-unknown}
-use Rattle.btor2.specs.laws.Constant.{not-signed}
+use Rattle.spelling.specs.laws.Constant.{not-signed}
 use Rattle.btor2.specs.laws.Passed.{Formed, Passes, passes}
 use Rattle.btor2.specs.laws.Alias.{own-count, makes-some, ext-shape}
 use Rattle.btor2.specs.laws.Sound.{Sound, Role, makes-sort, makes-input, makes-a-value, makes-a-root, role}

@@ -7,11 +7,11 @@ use Prim.Native.Nat.{ℕ, _+_}
 use native.Mathlib.Omega.{arith}
 use lib.Dec.{eqb}
 use lib.ListN.{length, length-append}
-use Rattle.btor2.specs.Words.{Word, sort, input, zeros, one, ones, const, constd, consth, inv, conj, disj, xor, add, sub, mul, sll, srl, sra, eq, neq, ult, slt, ite, concat, slice, uext, sext, constraint, other}
-use Rattle.btor2.specs.Format.{Ref, Item}
-use Rattle.btor2.specs.Nodes.{invert}
-use Rattle.btor2.specs.Conversion.{State, at, widthIn, operandOf, operands, nots, newNodes}
-use Rattle.btor2.specs.inner.Spelled.{formOf, ownCount}
+use Rattle.lines.specs.Words.{Word, sort, input, zeros, one, ones, const, constd, consth, inv, conj, disj, xor, add, sub, mul, sll, srl, sra, eq, neq, ult, slt, ite, concat, slice, uext, sext, constraint, other}
+use Rattle.lines.specs.Format.{Ref, Item}
+use Rattle.spelling.specs.Nodes.{invert, nots}
+use Rattle.btor2.specs.Conversion.{State, at, widthIn, operandOf, operands, newNodes}
+use Rattle.spelling.specs.inner.Spelled.{formOf, ownCount}
 use Rattle.btor2.specs.laws.Alias.{own-count}
 
 -- how many nodes a keyword's line makes beside the nots of its references, where its number is p

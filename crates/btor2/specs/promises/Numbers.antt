@@ -9,13 +9,13 @@ use lib.Dec.{eqb, leb}
 use lib.ListN.{length, length-append}
 use Rattle.words.specs.laws.Bits.{lt-or-ge}
 use Rattle.texts.specs.Runs.{ascii, equal, isFeed, onto, split}
-use Rattle.btor2.specs.declared.table.Makes.{Makes}
-use Rattle.btor2.specs.declared.table.Makes.the-variants.{Sort, Input, Value, Root}
+use Rattle.lines.specs.declared.table.Makes.{Makes}
+use Rattle.lines.specs.declared.table.Makes.the-variants.{Sort, Input, Value, Root}
 use Rattle.btor2.specs.declared.Converted.{Converted}
 use Rattle.btor2.specs.declared.Converted.the-variants.{Done, Refused}
-use Rattle.btor2.specs.Lines.{Token, token, lines, tokens}
-use Rattle.btor2.specs.Words.{numberOf as wordNumber, wordOf, shape}
-use Rattle.btor2.specs.Format.{_orElse_, given, isWord, isId, idWrong, bitvecFault, sortFault, argumentsWrong, formatFault}
+use Rattle.lines.specs.Lines.{Token, token, lines, tokens}
+use Rattle.lines.specs.Words.{numberOf as wordNumber, wordOf, shape}
+use Rattle.lines.specs.Format.{_orElse_, given, isWord, isId, idWrong, bitvecFault, sortFault, argumentsWrong, formatFault}
 use Rattle.btor2.specs.Conversion.{State, lineFault, Outcome, converted, refused, outcome}
 use Rattle.btor2.specs.Answer.{Answers, done, refuses, Converts, numberOf, lineOf}
 use Rattle.btor2.specs.promises.Order.{FirstFault, refused-exactly, refused-before, Told, format, ids, widths, space, passes, in-order}

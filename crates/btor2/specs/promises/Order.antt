@@ -8,8 +8,8 @@ use native.Mathlib.Omega.{arith}
 use lib.Dec.{ltb, eqb}
 use lib.ListN.{length}
 use borrow.Author.Tests.{lt-ltb, le-ltb, ltb-true, ltb-false, eq-eqb, ne-eqb, eqb-true, eqb-false}
-use Rattle.btor2.specs.Lines.{Token, lines, tokens}
-use Rattle.btor2.specs.Format.{_orElse_, given, formatFault, Item, item}
+use Rattle.lines.specs.Lines.{Token, lines, tokens}
+use Rattle.lines.specs.Format.{_orElse_, given, formatFault, Item, item}
 use Rattle.btor2.specs.Conversion.{State, start, idFault, misfit, tooMuch, after, itemFault, lineFault, afterLine, Outcome, converted, refused, convertFrom, outcome}
 use Rattle.btor2.specs.laws.Reached.{fold-more, fold-stops}
 

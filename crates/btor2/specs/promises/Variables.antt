@@ -3,8 +3,8 @@ use mathlib.Core.Path.{_≡_}
 use mathlib.Core.List.{List, map}
 use Prim.Native.Nat.{ℕ, _<_}
 use lib.ListN.{length, getD}
-use Rattle.btor2.specs.Lines.{lines, tokens}
-use Rattle.btor2.specs.Nodes.{invert, variableNode}
+use Rattle.lines.specs.Lines.{lines, tokens}
+use Rattle.spelling.specs.Nodes.{invert, variableNode}
 use Rattle.btor2.specs.Conversion.{State, converted, outcome}
 use Rattle.btor2.specs.Inputs.{variableWidths, inputWidths}
 use Rattle.btor2.specs.laws.Reached.{outcome-reached}

@@ -5,7 +5,7 @@ use lib.ListN.{length, drop}
 use borrow.Author.Needs.{needs}
 use Rattle.texts.specs.laws.Runs.{run-inside}
 use lib.ListN.{length-take, length-drop}
-use Rattle.btor2.specs.laws.Text.{Begins, begins-first, begins-next}
+use Rattle.lines.specs.laws.Text.{Begins, begins-first, begins-next}
 use Rattle.btor2.specs.laws.Fold.{Going, going-none, fault-some, fold-fault, fold-next, fold-done}
 use Rattle.btor2.proofs.fold.fold_lines.Statement.{statement}
 use Rattle.btor2.proofs.fold.fold_lines.Tie as tie

@@ -3,7 +3,7 @@ use mathlib.Core.Path.{_≡_, refl, sym, _∙_}
 use native.Mathlib.Omega.{arith}
 use lib.ListN.{take}
 use borrow.Author.Needs.{needs}
-use Rattle.btor2.specs.Lines.{lines}
+use Rattle.lines.specs.Lines.{lines}
 use Rattle.btor2.specs.Conversion.{State}
 use Rattle.btor2.specs.inner.Kept.{Named, nodeNamed}
 use Rattle.btor2.specs.laws.Name.{named-zero, named-here, named-turn, named-stop}

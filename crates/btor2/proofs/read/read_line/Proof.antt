@@ -1,7 +1,7 @@
 -- Everything at its place.
 use native.Mathlib.Omega.{arith}
 use borrow.Author.Needs.{needs}
-use Rattle.btor2.specs.laws.Format.{first-few, refs-few, numbers-few}
+use Rattle.lines.specs.laws.Format.{first-few, refs-few, numbers-few}
 use Rattle.btor2.specs.laws.ReadOf.{read-told}
 use Rattle.btor2.proofs.read.read_line.Statement.{statement}
 use Rattle.btor2.proofs.read.read_line.Tie as tie

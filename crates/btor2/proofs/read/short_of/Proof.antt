@@ -1,6 +1,6 @@
 -- A number below 128, or 128.
 use borrow.Author.Needs.{needs}
-use Rattle.btor2.specs.laws.Constant.{short-huge, short-small, short-wide}
+use Rattle.spelling.specs.laws.Constant.{short-huge, short-small, short-wide}
 use Rattle.btor2.proofs.read.short_of.Statement.{statement}
 use Rattle.btor2.proofs.read.short_of.Tie as tie
 

@@ -1,6 +1,6 @@
 -- By what the line makes.
 use borrow.Author.Needs.{needs}
-use Rattle.btor2.specs.inner.Told.{small}
+use Rattle.lines.specs.inner.Told.{small}
 use Rattle.btor2.proofs.read.sort_named.Statement.{statement}
 use Rattle.btor2.proofs.read.sort_named.Tie as tie
 

@@ -4,10 +4,10 @@ use Prim.Native.Nat.{_-_, _*_, _≤_}
 use native.Mathlib.Omega.{arith}
 use lib.ListN.{length, take}
 use lib.Seq.{sets, length-sets}
-use Rattle.btor2.specs.Conversion.{allNodes}
-use Rattle.btor2.specs.inner.Spelled.{newRead}
-use Rattle.btor2.specs.laws.Spell.{count-few, new-length}
-use Rattle.btor2.specs.laws.Take.{nodes-none, nodes-turn, nodes-all}
+use Rattle.spelling.specs.Bytes.{allNodes}
+use Rattle.spelling.specs.inner.Spelled.{newRead}
+use Rattle.spelling.specs.laws.Spell.{count-few, new-length}
+use Rattle.spelling.specs.laws.Written.{nodes-none, nodes-turn, nodes-all}
 use Rattle.btor2.proofs.take.add_nodes.Statement.{statement}
 use Rattle.btor2.proofs.take.add_nodes.Tie as tie
 

@@ -2,7 +2,7 @@
 use native.Mathlib.Omega.{arith}
 use borrow.Author.Needs.{needs}
 use Rattle.btor2.specs.inner.Taking.{full, put}
-use Rattle.btor2.specs.laws.Spell.{count-few}
+use Rattle.spelling.specs.laws.Spell.{count-few}
 use Rattle.btor2.specs.laws.Place.{place-judged, place-put, room-left}
 use Rattle.btor2.proofs.take.place_line.Statement.{statement}
 use Rattle.btor2.proofs.take.place_line.Tie as tie

@@ -1,0 +1,21 @@
+-- The column at each word.
+use mathlib.Core.Path.{_≡_, refl, sym, _∙_}
+use native.Mathlib.Omega.{arith}
+use Rattle.lines.specs.Words.{shape}
+use Rattle.lines.specs.laws.Word.{refs-column, past-words}
+use borrow.Author.Needs.{needs}
+use Rattle.lines.proofs.table.refs_of.Statement.{statement}
+use Rattle.lines.proofs.table.refs_of.Tie as tie
+
+array-read-result : tie.Need-array-read-result
+array-read-result c = search needs
+
+returns : tie.Need-returns
+returns c = refs-column _ (c .if1 .taken)
+
+returns-2 : tie.Need-returns-2
+unfolding shape
+returns-2 c = rw (past-words _ (c .if1 .left))
+
+pub refs-of-spec : {M : Type 1} → statement M
+refs-of-spec = tie.close (tie.spec array-read-result returns returns-2)

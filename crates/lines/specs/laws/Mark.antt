@@ -1,0 +1,81 @@
+-- Laws of the places of a line's tokens, stored one after the other.
+use mathlib.Core.Path.{_≡_, refl, sym, _∙_}
+use mathlib.Core.Bool.{Bool, true, false}
+use mathlib.Core.List.{List, []}
+use Prim.Native.Nat.{ℕ, _+_, _-_, _*_, _≤_, _<_}
+use native.Mathlib.Omega.{arith}
+use native.Mathlib.Nat.{add-zero}
+use lib.Dec.{eqb}
+use lib.ListN.{length, getD, take, drop, set, length-set}
+use lib.Seq.{getD-set-same, getD-set-other, getD-drop}
+use borrow.Author.Tests.{eqb-true, eqb-false}
+use Rattle.lines.specs.Lines.{Token, token, tokens}
+use Rattle.lines.specs.inner.Places.{MarkedAt, Marked}
+
+pub marked-none : (l marks : List ℕ) → length marks ≡ 24 → Marked l 0 marks
+marked-none l marks e = record { long = e; ordered = λ j h. absurd (omega arith); inside = λ j h. absurd (omega arith); told = λ j h. absurd (omega arith) }
+
+module _ (marks : List ℕ) (k from end : ℕ) (e : length marks ≡ 24) (h : k < 12) where
+  abbrev then-marks : List ℕ
+  then-marks = set (set marks (2 * k) from) (2 * k + 1) end
+
+  -- what stands there then: token k's places, and those of the tokens before
+  first-there : getD then-marks (2 * k) 0 ≡ from
+  first-there =
+      getD-set-other (set marks (2 * k) from) (2 * k + 1) (2 * k) end 0 (λ z. let y : 2 * k ≡ 2 * k + 1 = z in omega arith)
+      ∙ getD-set-same marks (2 * k) from 0 (omega arith)
+
+  second-there : getD then-marks (2 * k + 1) 0 ≡ end
+  second-there = getD-set-same (set marks (2 * k) from) (2 * k + 1) end 0 (omega (arith, length-set marks (2 * k) from))
+
+  others-there : (i : ℕ) → i < 2 * k → getD then-marks i 0 ≡ getD marks i 0
+  others-there i l =
+      getD-set-other (set marks (2 * k) from) (2 * k + 1) i end 0 (λ z. let y : i ≡ 2 * k + 1 = z in omega arith)
+      ∙ getD-set-other marks (2 * k) i from 0 (λ z. let y : i ≡ 2 * k = z in omega arith)
+
+-- token k is the first that is left from a place on
+token-left : (l : List ℕ) (at k : ℕ) → tokens (drop at l) ≡ drop k (tokens l) → getD (tokens (drop at l)) 0 [] ≡ token (tokens l) k
+token-left l at k e = rw e (getD-drop k (tokens l) 0 [] ∙ rw (add-zero k))
+
+pub marked-more : (l : List ℕ) (at k : ℕ) (marks marks′ : List ℕ) (r : ℕ) → Marked l k marks → k < 12 → tokens (drop at l) ≡ drop k (tokens l)
+    → MarkedAt l at k marks marks′ r → Marked l (k + 1) marks′
+marked-more l at k marks marks′ r M h q A =
+    rw (A .stored)
+    record {
+      long = length-set (set marks (2 * k) (A .from)) (2 * k + 1) (A .end) ∙ length-set marks (2 * k) (A .from) ∙ M .long;
+      ordered = λ j g. ordered j g (eqb j k) refl;
+      inside = λ j g. inside j g (eqb j k) refl;
+      told = λ j g. told j g (eqb j k) refl;
+    }
+  where
+    first : getD (set (set marks (2 * k) (A .from)) (2 * k + 1) (A .end)) (2 * k) 0 ≡ A .from
+    first = first-there marks k (A .from) (A .end) (M .long) h
+
+    second : getD (set (set marks (2 * k) (A .from)) (2 * k + 1) (A .end)) (2 * k + 1) 0 ≡ A .end
+    second = second-there marks k (A .from) (A .end) (M .long) h
+
+    before : (j : ℕ) → j < k + 1 → (j ≡ k → ⊥) → j < k
+    before j g n = omega arith
+
+    other : (i : ℕ) → i < 2 * k → getD (set (set marks (2 * k) (A .from)) (2 * k + 1) (A .end)) i 0 ≡ getD marks i 0
+    other i g = others-there marks k (A .from) (A .end) (M .long) h i g
+
+    ordered : (j : ℕ) → j < k + 1 → (b : Bool) → eqb j k ≡ b
+        → getD (set (set marks (2 * k) (A .from)) (2 * k + 1) (A .end)) (2 * j) 0 ≤ getD (set (set marks (2 * k) (A .from)) (2 * k + 1) (A .end)) (2 * j + 1) 0
+    ordered j g true e = let z : j ≡ k = eqb-true j k e in rw (z, first, second) (A .ordered)
+    ordered j g false e =
+        let p = before j g (eqb-false j k e) in
+        rw (other (2 * j) (omega arith), other (2 * j + 1) (omega arith)) (M .ordered j p)
+
+    inside : (j : ℕ) → j < k + 1 → (b : Bool) → eqb j k ≡ b → getD (set (set marks (2 * k) (A .from)) (2 * k + 1) (A .end)) (2 * j + 1) 0 ≤ length l
+    inside j g true e = let z : j ≡ k = eqb-true j k e in rw (z, second) (A .inside)
+    inside j g false e = let p = before j g (eqb-false j k e) in rw (other (2 * j + 1) (omega arith)) (M .inside j p)
+
+    told : (j : ℕ) → j < k + 1 → (b : Bool) → eqb j k ≡ b
+        → take (getD (set (set marks (2 * k) (A .from)) (2 * k + 1) (A .end)) (2 * j + 1) 0 - getD (set (set marks (2 * k) (A .from)) (2 * k + 1) (A .end)) (2 * j) 0)
+        (drop (getD (set (set marks (2 * k) (A .from)) (2 * k + 1) (A .end)) (2 * j) 0) l)
+        ≡ token (tokens l) j
+    told j g true e = let z : j ≡ k = eqb-true j k e in rw (z, first, second) (A .told ∙ token-left l at k q)
+    told j g false e =
+        let p = before j g (eqb-false j k e) in
+        rw (other (2 * j) (omega arith), other (2 * j + 1) (omega arith)) (M .told j p)

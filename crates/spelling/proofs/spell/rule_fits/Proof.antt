@@ -1,0 +1,121 @@
+-- By the rule.
+use borrow.Author.Needs.{needs}
+use Rattle.spelling.specs.inner.Spelled.{ruleFits}
+use Rattle.spelling.proofs.spell.rule_fits.Statement.{statement}
+use Rattle.spelling.proofs.spell.rule_fits.Tie as tie
+
+enum-told : tie.Need-enum-told
+enum-told c = search needs
+
+enum-told-2 : tie.Need-enum-told-2
+enum-told-2 c = search needs
+
+enum-told-3 : tie.Need-enum-told-3
+enum-told-3 c = search needs
+
+enum-told-4 : tie.Need-enum-told-4
+enum-told-4 c = search needs
+
+enum-told-5 : tie.Need-enum-told-5
+enum-told-5 c = search needs
+
+enum-told-6 : tie.Need-enum-told-6
+enum-told-6 c = search needs
+
+enum-told-7 : tie.Need-enum-told-7
+enum-told-7 c = search needs
+
+enum-told-8 : tie.Need-enum-told-8
+enum-told-8 c = search needs
+
+add-result : tie.Need-add-result
+add-result c = search needs
+
+enum-told-9 : tie.Need-enum-told-9
+enum-told-9 c = search needs
+
+slice-fits-requires : tie.Need-slice-fits-requires
+slice-fits-requires c κs = search needs
+
+enum-told-10 : tie.Need-enum-told-10
+enum-told-10 c = search needs
+
+add-result-2 : tie.Need-add-result-2
+add-result-2 c = search needs
+
+enum-told-11 : tie.Need-enum-told-11
+enum-told-11 c = search needs
+
+returns : tie.Need-returns
+unfolding ruleFits
+returns c = rw (c .enum-told .given .1)
+
+returns-2 : tie.Need-returns-2
+unfolding ruleFits
+returns-2 c = rw (c .enum-told2 .given .1)
+
+returns-3 : tie.Need-returns-3
+unfolding ruleFits
+returns-3 c = rw (c .enum-told3 .given .1)
+
+returns-4 : tie.Need-returns-4
+unfolding ruleFits
+returns-4 c = rw (c .enum-told4 .given .1)
+
+returns-5 : tie.Need-returns-5
+unfolding ruleFits
+returns-5 c = rw (c .enum-told5 .given .1)
+
+returns-6 : tie.Need-returns-6
+unfolding ruleFits
+returns-6 c = rw (c .enum-told6 .given .1)
+
+returns-7 : tie.Need-returns-7
+unfolding ruleFits
+returns-7 c = rw (c .enum-told7 .given .1)
+
+returns-8 : tie.Need-returns-8
+unfolding ruleFits
+returns-8 c = rw (c .enum-told8 .given .1)
+
+returns-9 : tie.Need-returns-9
+unfolding ruleFits
+returns-9 c = rw (c .before .enum-told9 .given .1) (c .slice-fits .ensures)
+
+returns-10 : tie.Need-returns-10
+unfolding ruleFits
+returns-10 c = rw (c .enum-told10 .given .1)
+
+returns-11 : tie.Need-returns-11
+unfolding ruleFits
+returns-11 c = rw (c .enum-told11 .given .1)
+
+pub rule-fits-spec : {M : Type 1} → statement M
+rule-fits-spec =
+    tie.close
+    (tie.spec
+    enum-told
+    enum-told-2
+    enum-told-3
+    enum-told-4
+    enum-told-5
+    enum-told-6
+    enum-told-7
+    enum-told-8
+    add-result
+    enum-told-9
+    slice-fits-requires
+    enum-told-10
+    add-result-2
+    enum-told-11
+    returns
+    returns-2
+    returns-3
+    returns-4
+    returns-5
+    returns-6
+    returns-7
+    returns-8
+    returns-9
+    returns-10
+    returns-11)
