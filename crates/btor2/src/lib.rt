@@ -26,8 +26,8 @@ pub fn convert(text: &[u8], out: &mut [u8]) -> Converted
         return Converted::Refused(5, 0);
     }
     let mut bytes = [0u8; 24576];
-    let mut ids = [0u64; 1024];
-    let mut places = [0u16; 1024];
+    let mut ids = [0u64; 2048];
+    let mut places = [0u16; 2048];
     let mut rooted = [0u16; 256];
     let mut known = [0u64; 64];
     let mut widths = [0u8; 64];

@@ -107,7 +107,7 @@ fn add_nodes(bytes: &mut [u8], x: Line, n: u16, total: u16)
     }
 }
 
-// The id and the node of a line that makes nodes and names one; answers how many ids are then kept.
+// The id and the node of a line that names one, while there is room; answers how many ids are then kept.
 fn add_name(
     ids: &mut [u64],
     places: &mut [u16],
@@ -117,10 +117,10 @@ fn add_name(
     id: u64,
     node: u16,
 ) -> u16
-    requires { ⌜ (0 < total → names < length (now ids)) × (0 < total → names < length (now places)) × (names ≤ 1024) ⌝ }
-    ensures { λ r. ⌜ NamedIf (addsName makes total) (now (ids .entry)) (now (places .entry)) names id node (now (ids .exit)) (now (places .exit)) r ⌝ }
+    requires { ⌜ (names + total ≤ 2048) × (length (now ids) ≡ 2048) × (length (now places) ≡ 2048) ⌝ }
+    ensures { λ r. ⌜ NamedIf (addsName makes total names) (now (ids .entry)) (now (places .entry)) names id node (now (ids .exit)) (now (places .exit)) r ⌝ }
 {
-    if !adds_name(makes, total) {
+    if !adds_name(makes, total, names) {
         return names;
     }
     ids[names as usize] = id;
@@ -128,13 +128,14 @@ fn add_name(
     names + 1
 }
 
-fn adds_name(makes: Makes, total: u16) -> bool
-    ensures { λ r. ⌜ r ≡ addsName makes total ⌝ }
+// A line that makes nodes always; another name of a node while fewer than 1,024 ids are kept: 2,048 places hold them all.
+fn adds_name(makes: Makes, total: u16, names: u16) -> bool
+    ensures { λ r. ⌜ r ≡ addsName makes total names ⌝ }
 {
     match makes {
         Makes::Sort => false,
-        Makes::Input => 0 < total,
-        Makes::Value => 0 < total,
+        Makes::Input => (0 < total) | (names < 1024),
+        Makes::Value => (0 < total) | (names < 1024),
         Makes::Root => false,
     }
 }

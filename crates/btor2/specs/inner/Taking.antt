@@ -47,11 +47,12 @@ rootsAfter Input rs n r = n
 rootsAfter Value rs n r = n
 rootsAfter Root rs n r = cond (isRoot r rs) n (n + 1)
 
-abbrev pub addsName : Makes → ℕ → Bool
-addsName Sort n = false
-addsName Input n = ltb 0 n
-addsName Value n = ltb 0 n
-addsName Root n = false
+-- whether a line's id is kept: one that makes n nodes always, another name while fewer than 1,024 ids are
+abbrev pub addsName : Makes → ℕ → ℕ → Bool
+addsName Sort n names = false
+addsName Input n names = ltb 0 n || ltb names 1024
+addsName Value n names = ltb 0 n || ltb names 1024
+addsName Root n names = false
 
 pub data NamedIf : Bool → List ℕ → List ℕ → ℕ → ℕ → ℕ → List ℕ → List ℕ → ℕ → Type 0 where
   kept : {ids places : List ℕ} {names id node : ℕ} → NamedIf false ids places names id node ids places names
@@ -75,7 +76,7 @@ pub data Placed (x : Line) (n : Counts) (room : ℕ) (bytes ids places rooted by
       {names : ℕ}
       → overfull room (n .nodes + countRead x) (rootsWith x n rooted) ≡ false
       → (x .width ≤ 64 → bytes′ ≡ sets bytes (24 * n .nodes) (allNodes (newRead x (n .nodes))))
-      → NamedIf (addsName (shape (wordOf (x .word)) .makes) (countRead x)) ids places (n .names) (x .id) (standing x n) ids′ places′ names
+      → NamedIf (addsName (shape (wordOf (x .word)) .makes) (countRead x) (n .names)) ids places (n .names) (x .id) (standing x n) ids′ places′ names
       → RootIf (n .roots) (rootsWith x n rooted) (standing x n) rooted rooted′
       → Placed x n room bytes ids places rooted bytes′ ids′ places′ rooted′
       (Next (record { last = x .id; nodes = n .nodes + countRead x; roots = rootsWith x n rooted; names = names }))
@@ -85,8 +86,8 @@ pub data Placed (x : Line) (n : Counts) (room : ℕ) (bytes ids places rooted by
 -- the arrays' lengths
 pub record Lengths (bytes ids places rooted : List ℕ) : Type 0 where
   pub bytes-long : length bytes ≡ 24576
-  pub ids-long : length ids ≡ 1024
-  pub places-long : length places ≡ 1024
+  pub ids-long : length ids ≡ 2048
+  pub places-long : length places ≡ 2048
   pub rooted-long : length rooted ≡ 256
 
 -- the arrays beside them: sorts that are kept, and where the tokens of a line stand
@@ -98,12 +99,12 @@ pub record Aside (sort-ids widths marks : List ℕ) : Type 0 where
 -- what holds of the arrays and counts by themselves
 pub record Fits (n : Counts) (bytes ids places rooted : List ℕ) : Type 0 where
   pub bytes-long : length bytes ≡ 24576
-  pub ids-long : length ids ≡ 1024
-  pub places-long : length places ≡ 1024
+  pub ids-long : length ids ≡ 2048
+  pub places-long : length places ≡ 2048
   pub rooted-long : length rooted ≡ 256
   pub nodes-few : n .nodes ≤ 1024
   pub roots-few : n .roots ≤ 256
-  pub names-few : n .names ≤ n .nodes
+  pub names-few : n .names ≤ n .nodes + 1024
   pub rising : Rising ids (n .names)
 
 -- and of the state after the lines ls

@@ -38,6 +38,7 @@ use Rattle.spelling.specs.laws.Spell.{new-length}
 use Rattle.btor2.specs.laws.Read.{id-is, unknown-is, width-most, misfit-is, new-is, standing-is}
 use Rattle.spelling.specs.laws.Written.{node-long, all-long}
 use Rattle.btor2.specs.laws.Place.{room-left}
+use Rattle.btor2.specs.laws.NameIf.{either-room}
 use Rattle.btor2.specs.laws.Step.{not-zero, line-format, line-unknown, line-misfit, line-full, line-passes, added-last, added-nodes, added-roots, roots-kept, bytes-kept, overfull-is, parts, names-same, names-also, names-more, rising-more, under-more}
 
 -- ---- the widths of nodes, read off their bytes
@@ -84,9 +85,9 @@ pub record NamesThen (τ : State) (ls : List (List ℕ)) (id nodes : ℕ) (i p :
   pub named : Named τ ls names i p
   pub rising : Rising i names
   pub under : (k : ℕ) → k < names → getD i k 0 ≤ id
-  pub few : names ≤ nodes
-  pub ids-long : length i ≡ 1024
-  pub places-long : length p ≡ 1024
+  pub few : names ≤ nodes + 1024
+  pub ids-long : length i ≡ 2048
+  pub places-long : length p ≡ 2048
 
 -- ---- refusals
 
@@ -237,35 +238,34 @@ module _ {room : ℕ} {σ : State} {ls : List (List ℕ)} {n : Counts} {bytes id
               }
 
           names-new : (mk : Makes) → mk ≡ item (tokens l) .makes
-              → added σ (item (tokens l)) mk .named ≡ σ .named ++ (item (tokens l) .id, nodeFor σ (item (tokens l))) ∷ [] → ltb 0 (countRead x) ≡ true
+              → added σ (item (tokens l)) mk .named ≡ σ .named ++ (item (tokens l) .id, nodeFor σ (item (tokens l))) ∷ [] → (ltb 0 (countRead x) || ltb (n .names) 1024) ≡ true
               → NamesThen τ (ls ++ l ∷ []) (x .id) (n .nodes + countRead x) (set ids (n .names) (x .id)) (set places (n .names) (standing x n)) (n .names + 1)
           unfolding after
           names-new mk em qn c =
-              let g : 0 < countRead x = ltb-true 0 (countRead x) c in
-              let v = K .fits .names-few in
+              let v = either-room (countRead x) (n .names) (n .nodes) c (K .fits .names-few) (left .0) in
               let il = K .fits .ids-long in
               let pl = K .fits .places-long in
-              let li : n .names < length ids = omega (arith, left) in
-              let lp : n .names < length places = omega (arith, left) in
+              let li : n .names < length ids = omega (arith, v .0) in
+              let lp : n .names < length places = omega (arith, v .0) in
               let la = K .last-is in
               record {
                 named = rw (stands, ← id-of) at (names-more (K .named) S τ l (tokens l) refl above sound-then (nodeFor σ (item (tokens l))) (grown mk em qn) li lp);
                 rising = rising-more ids (n .names) (x .id) (n .last) (K .fits .rising) li (K .under) (omega (arith, above, id-of));
                 under = under-more ids (n .names) (x .id) (n .last) li (K .under) (omega (arith, above, id-of));
-                few = omega arith;
+                few = v .1;
                 ids-long = length-set ids (n .names) (x .id) ∙ il;
                 places-long = length-set places (n .names) (standing x n) ∙ pl;
               }
 
           names-then : (k : ℕ) (mk : Makes) → Role k mk → k ≡ numberOf (token (tokens l) 1) → mk ≡ item (tokens l) .makes
-              → (c : Bool) → addsName mk (countRead x) ≡ c → {i p : List ℕ} {names : ℕ} → NamedIf c ids places (n .names) (x .id) (standing x n) i p names
+              → (c : Bool) → addsName mk (countRead x) (n .names) ≡ c → {i p : List ℕ} {names : ℕ} → NamedIf c ids places (n .names) (x .id) (standing x n) i p names
               → NamesThen τ (ls ++ l ∷ []) (x .id) (n .nodes + countRead x) i p names
           unfolding added naming
           names-then k mk makes-sort ek em c ec taking.kept = names-stay Sort em refl
           names-then k mk makes-sort ek em c ec taking.added = absurd (false≢true ec)
-          names-then k mk makes-input ek em c ec taking.kept = names-another Input em refl (empty-alias 1 ek (omega arith) (omega arith) ec)
+          names-then k mk makes-input ek em c ec taking.kept = names-another Input em refl (empty-alias 1 ek (omega arith) (omega arith) (or-both (ltb 0 (countRead x)) (ltb (n .names) 1024) ec .0))
           names-then k mk makes-input ek em c ec taking.added = names-new Input em refl ec
-          names-then k mk (makes-a-value lo hi) ek em c ec taking.kept = names-another Value em refl (empty-alias k ek (omega arith) hi ec)
+          names-then k mk (makes-a-value lo hi) ek em c ec taking.kept = names-another Value em refl (empty-alias k ek (omega arith) hi (or-both (ltb 0 (countRead x)) (ltb (n .names) 1024) ec .0))
           names-then k mk (makes-a-value lo hi) ek em c ec taking.added = names-new Value em refl ec
           names-then k mk (makes-a-root lo) ek em c ec taking.kept = names-stay Root em refl
           names-then k mk (makes-a-root lo) ek em c ec taking.added = absurd (false≢true ec)
@@ -282,7 +282,7 @@ module _ {room : ℕ} {σ : State} {ls : List (List ℕ)} {n : Counts} {bytes id
           -- everything
           kept-then : {b i p r : List ℕ} {names : ℕ}
               → (x .width ≤ 64 → b ≡ sets bytes (24 * n .nodes) (allNodes (newRead x (n .nodes))))
-              → NamedIf (addsName (shape (wordOf (x .word)) .makes) (countRead x)) ids places (n .names) (x .id) (standing x n) i p names
+              → NamedIf (addsName (shape (wordOf (x .word)) .makes) (countRead x) (n .names)) ids places (n .names) (x .id) (standing x n) i p names
               → RootIf (n .roots) (rootsWith x n rooted) (standing x n) rooted r
               → Kept room (afterLine σ (tokens l)) (ls ++ l ∷ []) (record { last = x .id; nodes = n .nodes + countRead x; roots = rootsWith x n rooted; names = names }) b i p r
           kept-then {b} {i} {p} {r} {names} bw Nm Rt =
@@ -317,7 +317,7 @@ module _ {room : ℕ} {σ : State} {ls : List (List ℕ)} {n : Counts} {bytes id
         pub step-put : {b i p r : List ℕ} {names : ℕ}
             → overfull room (n .nodes + countRead x) (rootsWith x n rooted) ≡ false
             → (x .width ≤ 64 → b ≡ sets bytes (24 * n .nodes) (allNodes (newRead x (n .nodes))))
-            → NamedIf (addsName (shape (wordOf (x .word)) .makes) (countRead x)) ids places (n .names) (x .id) (standing x n) i p names
+            → NamedIf (addsName (shape (wordOf (x .word)) .makes) (countRead x) (n .names)) ids places (n .names) (x .id) (standing x n) i p names
             → RootIf (n .roots) (rootsWith x n rooted) (standing x n) rooted r
             → Stepped room σ ls l b i p r (Next (record { last = x .id; nodes = n .nodes + countRead x; roots = rootsWith x n rooted; names = names }))
         step-put o bw Nm Rt = next (passed o) (kept-then o bw Nm Rt)

@@ -48,7 +48,7 @@ module _ (x : Line) (n : Counts) (room : ℕ) where
       → b ≡ overfull room (n .nodes + total) roots
       → b ≡ false
       → (x .width ≤ 64 → bytes′ ≡ sets bytes (24 * n .nodes) (allNodes (newRead x (n .nodes))))
-      → NamedIf (addsName m total) ids places (n .names) (x .id) node ids′ places′ names
+      → NamedIf (addsName m total (n .names)) ids places (n .names) (x .id) node ids′ places′ names
       → RootIf (n .roots) roots node rooted rooted′
       → Placed x n room bytes ids places rooted bytes′ ids′ places′ rooted′
       (Next (record { last = x .id; nodes = n .nodes + total; roots = roots; names = names }))

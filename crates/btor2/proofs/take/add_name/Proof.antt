@@ -1,8 +1,9 @@
 -- Both arrays, where the line names a node of its own.
 use mathlib.Core.Path.{sym, _∙_}
+use native.Mathlib.Omega.{arith}
 use borrow.Author.Needs.{needs}
 use borrow.Author.Tests.{not-true, not-false}
-use Rattle.btor2.specs.laws.NameIf.{name-kept, name-added, adds-some}
+use Rattle.btor2.specs.laws.NameIf.{name-kept, name-added, adds-room}
 use Rattle.btor2.proofs.take.add_name.Statement.{statement}
 use Rattle.btor2.proofs.take.add_name.Tie as tie
 
@@ -16,13 +17,13 @@ mul-ids : tie.Need-mul-ids
 mul-ids c = search needs
 
 slice-write-ids : tie.Need-slice-write-ids
-slice-write-ids c = (c .before .before .before .before .pre .0) (adds-some (c .before .before .before .before .args .makes) (c .before .before .before .before .args .total) (sym (c .before .adds-name .ensures) ∙ not-false _ (c .if1 .left)))
+slice-write-ids c = let l = (c .before .before .before .before .pre .1) in let r = adds-room (c .before .before .before .before .args .makes) (c .before .before .before .before .args .total) (c .before .before .before .before .args .names) (sym (c .before .adds-name .ensures) ∙ not-false _ (c .if1 .left)) (c .before .before .before .before .pre .0) in omega arith
 
 mul-places : tie.Need-mul-places
 mul-places c = search needs
 
 slice-write-places : tie.Need-slice-write-places
-slice-write-places c = (c .before .before .before .before .pre .1) (adds-some (c .before .before .before .before .args .makes) (c .before .before .before .before .args .total) (sym (c .before .adds-name .ensures) ∙ not-false _ (c .if1 .left)))
+slice-write-places c = let l = (c .before .before .before .before .pre .2) in let r = adds-room (c .before .before .before .before .args .makes) (c .before .before .before .before .args .total) (c .before .before .before .before .args .names) (sym (c .before .adds-name .ensures) ∙ not-false _ (c .if1 .left)) (c .before .before .before .before .pre .0) in omega arith
 
 add-result : tie.Need-add-result
 add-result c = search needs
