@@ -93,36 +93,12 @@ fn operands_of(
     requires { ⌜ Rising (now ids) names × (names ≤ length (now places)) × (place ≤ 3) × Marked (now line) 12 (now marks) ⌝ }
     ensures { λ r. ⌜ ((σ : State) → Seen σ (take passed (lines (now (text .entry)))) names (now (bytes .entry)) (now (ids .entry)) (now (places .entry)) → Operated σ (tokens (now (line .entry))) place refs r) ⌝ }
 {
-    let a = operand_if(
-        0 < refs,
-        text,
-        passed,
-        ids,
-        places,
-        names,
-        bytes,
-        token_at(line, marks, place),
-    );
-    let b = operand_if(
-        1 < refs,
-        text,
-        passed,
-        ids,
-        places,
-        names,
-        bytes,
-        token_at(line, marks, place + 1),
-    );
-    let c = operand_if(
-        2 < refs,
-        text,
-        passed,
-        ids,
-        places,
-        names,
-        bytes,
-        token_at(line, marks, place + 2),
-    );
+    let first = token_at(line, marks, place);
+    let a = operand_if(0 < refs, text, passed, ids, places, names, bytes, first);
+    let second = token_at(line, marks, place + 1);
+    let b = operand_if(1 < refs, text, passed, ids, places, names, bytes, second);
+    let third = token_at(line, marks, place + 2);
+    let c = operand_if(2 < refs, text, passed, ids, places, names, bytes, third);
     Operands { a, b, c }
 }
 
@@ -149,14 +125,8 @@ pub(crate) fn read_line(
     let numbers = numbers_of(word);
     let middle = place + refs;
     let last = middle + numbers;
-    let width = sort_width(
-        text,
-        passed,
-        known,
-        widths,
-        sorts,
-        sort_named(makes, token_at(line, marks, 2)),
-    );
+    let sort = sort_named(makes, token_at(line, marks, 2));
+    let width = sort_width(text, passed, known, widths, sorts, sort);
     let ops = operands_of(
         text,
         passed,

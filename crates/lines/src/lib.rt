@@ -1,8 +1,8 @@
 // BTOR2's lines: tokens, keywords, which lines are of the format, and what an id stands for in a text.
 mod format;
 mod table;
-mod told;
 mod tokens;
+mod told;
 
 pub use format::format_fault;
 pub use format::is_signed;
@@ -15,10 +15,10 @@ pub use table::makes_of;
 pub use table::number_of;
 pub use table::numbers_of;
 pub use table::refs_of;
+pub use tokens::mark_tokens;
+pub use tokens::token_at;
+pub use tokens::token_walk;
 pub use told::alias_of;
 pub use told::line_of;
 pub use told::small_of;
 pub use told::width_told;
-pub use tokens::mark_tokens;
-pub use tokens::token_at;
-pub use tokens::token_walk;
