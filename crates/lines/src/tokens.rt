@@ -4,8 +4,7 @@ ghost use mathlib.Core.List.{[]};
 ghost use Prim.Native.Nat.{_+_, _≤_, _<_};
 ghost use lib.ListN.{length, getD, drop};
 ghost use Rattle.lines.specs.Lines.{tokens, token};
-ghost use Rattle.lines.specs.laws.Line.{tokenLength};
-ghost use Rattle.lines.specs.inner.Places.{After, MarkedAt, Marked};
+ghost use Rattle.lines.specs.inner.Places.{tokenLength, After, MarkedAt, Marked, Stored};
 use texts::Class;
 use texts::byte_at;
 use texts::run_end;
@@ -62,7 +61,7 @@ fn mark_token(line: &[u8], at: usize, marks: &mut [usize], k: usize) -> usize
 // Where the first 12 tokens of a line begin and end: no line of the format has more. One that is missing is empty.
 pub fn mark_tokens(line: &[u8], marks: &mut [usize])
     requires { ⌜ length (now marks) ≡ 24 ⌝ }
-    ensures { λ r. ⌜ Marked (now (line .entry)) 12 (now (marks .exit)) ⌝ }
+    ensures { λ r. ⌜ Stored (now (line .entry)) (now (marks .entry)) (now (marks .exit)) ⌝ }
 {
     let mut at: usize = 0;
     let mut k: usize = 0;

@@ -9,7 +9,7 @@ use lib.Dec.{eqb, eqb·suc-zero}
 use lib.ListN.{length, getD, take, drop, length-drop}
 use lib.Seq.{drop-drop, drop-length, getD-drop}
 use native.Mathlib.Nat.{add-zero}
-use Rattle.lines.specs.inner.Places.{After}
+use Rattle.lines.specs.inner.Places.{tokenLength, After}
 use borrow.Author.Tests.{eq-eqb, ne-eqb, eqb-true}
 use Rattle.texts.specs.declared.runs.Class.the-variants.{Blank, Solid}
 use Rattle.texts.specs.laws.Runs.{later, split-first, run-past, run-inside, run-short}
@@ -51,10 +51,6 @@ kept-later (b ∷ s) = by (isBlank b) refl (kept-later s)
     by false e h = h
 
 -- ---- the first token
-
--- how long the first token is where no blank stands in front: 0 where there is none
-unfoldable pub tokenLength : List ℕ → ℕ
-tokenLength s = cond (eqb (getD s 0 0) 59) 0 (runLength (isIn Solid) s)
 
 solid-run : (s : List ℕ) → runLength (isIn Solid) s ≡ runLength solid s
 unfolding isIn

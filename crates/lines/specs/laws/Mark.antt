@@ -2,15 +2,49 @@
 use mathlib.Core.Path.{_≡_, refl, sym, _∙_}
 use mathlib.Core.Bool.{Bool, true, false}
 use mathlib.Core.List.{List, []}
-use Prim.Native.Nat.{ℕ, _+_, _-_, _*_, _≤_, _<_}
+use Prim.Native.Nat.{ℕ, zero, suc, _+_, _-_, _*_, _≤_, _<_}
 use native.Mathlib.Omega.{arith}
 use native.Mathlib.Nat.{add-zero}
 use lib.Dec.{eqb}
 use lib.ListN.{length, getD, take, drop, set, length-set}
 use lib.Seq.{getD-set-same, getD-set-other, getD-drop}
-use borrow.Author.Tests.{eqb-true, eqb-false}
+use borrow.Author.Tests.{eqb-true, eqb-false, eq-eqb, ne-eqb}
 use Rattle.lines.specs.Lines.{Token, token, tokens}
-use Rattle.lines.specs.inner.Places.{MarkedAt, Marked}
+use Rattle.texts.specs.declared.runs.Class.the-variants.{Blank}
+use Rattle.texts.specs.Runs.{isIn, runLength}
+use Rattle.lines.specs.inner.Places.{tokenLength, begins, ends, beyond, stored, MarkedAt, Marked}
+
+-- ---- the places of one token
+
+module _ (l : List ℕ) (at from end : ℕ) (f : from ≡ at + runLength (isIn Blank) (drop at l)) (g : end ≡ from + tokenLength (drop from l)) where
+  pub begins-there : from ≡ begins l at
+  unfolding begins
+  begins-there = f
+
+  pub ends-there : end ≡ ends l at
+  unfolding ends begins
+  ends-there = g ∙ rw f
+
+  pub beyond-gone : end ≡ from → length l ≡ beyond l at
+  unfolding beyond
+  beyond-gone h = rw (← begins-there, ← ends-there, eq-eqb end from h)
+
+  pub beyond-some : (end ≡ from → ⊥) → end ≡ beyond l at
+  unfolding beyond
+  beyond-some h = rw (← begins-there, ← ends-there, ne-eqb end from h)
+
+-- ---- all of them
+
+pub stored-turn : (l : List ℕ) (at k : ℕ) (marks marks′ : List ℕ) (r : ℕ) (whole : List ℕ) → stored l (12 - k) at k marks ≡ whole → k < 12
+    → MarkedAt l at k marks marks′ r → stored l (12 - (k + 1)) r (k + 1) marks′ ≡ whole
+unfolding stored
+stored-turn l at k marks marks′ r whole q h A =
+    let e : 12 - k ≡ suc (12 - (k + 1)) = omega arith in
+    rw (A .stored-is, A .from-is, A .end-is, A .r-is) (rw e at q)
+
+pub stored-all : (l : List ℕ) (at k : ℕ) (marks whole : List ℕ) → stored l (12 - k) at k marks ≡ whole → k ≡ 12 → marks ≡ whole
+unfolding stored
+stored-all l at k marks whole q z = rw z at q
 
 pub marked-none : (l marks : List ℕ) → length marks ≡ 24 → Marked l 0 marks
 marked-none l marks e = record { long = e; ordered = λ j h. absurd (omega arith); inside = λ j h. absurd (omega arith); told = λ j h. absurd (omega arith) }
@@ -40,7 +74,7 @@ token-left l at k e = rw e (getD-drop k (tokens l) 0 [] ∙ rw (add-zero k))
 pub marked-more : (l : List ℕ) (at k : ℕ) (marks marks′ : List ℕ) (r : ℕ) → Marked l k marks → k < 12 → tokens (drop at l) ≡ drop k (tokens l)
     → MarkedAt l at k marks marks′ r → Marked l (k + 1) marks′
 marked-more l at k marks marks′ r M h q A =
-    rw (A .stored)
+    rw (A .stored-is)
     record {
       long = length-set (set marks (2 * k) (A .from)) (2 * k + 1) (A .end) ∙ length-set marks (2 * k) (A .from) ∙ M .long;
       ordered = λ j g. ordered j g (eqb j k) refl;

@@ -1,26 +1,22 @@
--- The contract of each public function determines its result: any two results that it allows are equal. Of `mark_tokens` the tokens are: a
--- missing one may be marked as empty anywhere.
+-- The contract of each public function determines its result: any two results that it allows are equal.
 use mathlib.Core.Path.{_≡_, sym, _∙_}
 use mathlib.Core.Bool.{Bool}
 use mathlib.Core.List.{List}
-use Prim.Native.Nat.{ℕ, _-_, _*_, _+_, _<_}
-use lib.ListN.{getD, take, drop}
+use Prim.Native.Nat.{ℕ}
+use lib.ListN.{take}
 use Rattle.texts.specs.Numbers.{valueIn}
 use Rattle.lines.specs.declared.table.Makes.{Makes}
 use Rattle.lines.specs.Lines.{Token, lines, tokens, token}
 use Rattle.lines.specs.Words.{numberOf, wordOf, shape}
 use Rattle.lines.specs.Format.{signed, unsigned, refStart, formatFault}
-use Rattle.lines.specs.inner.Places.{Marked}
+use Rattle.lines.specs.inner.Places.{Stored}
 use Rattle.lines.specs.inner.Told.{findLine, small, widthTold, aliasOf}
 
--- every contract but one is an equation
 one : {A : Type 0} {v r s : A} → r ≡ v → s ≡ v → r ≡ s
 one p q = p ∙ sym q
 
-pub mark-tokens-determined : (l marks marks′ : List ℕ) → Marked l 12 marks → Marked l 12 marks′ → (k : ℕ) → k < 12
-    → take (getD marks (2 * k + 1) 0 - getD marks (2 * k) 0) (drop (getD marks (2 * k) 0) l)
-    ≡ take (getD marks′ (2 * k + 1) 0 - getD marks′ (2 * k) 0) (drop (getD marks′ (2 * k) 0) l)
-mark-tokens-determined l marks marks′ M N k h = one (M .told k h) (N .told k h)
+pub mark-tokens-determined : (l marks r s : List ℕ) → Stored l marks r → Stored l marks s → r ≡ s
+mark-tokens-determined l marks r s R S = one (R .exactly) (S .exactly)
 
 pub token-at-determined : (l : List ℕ) (k : ℕ) (r s : Token) → r ≡ token (tokens l) k → s ≡ token (tokens l) k → r ≡ s
 token-at-determined l k r s = one

@@ -6,6 +6,7 @@ use lib.ListN.{length-set}
 use borrow.Author.Needs.{needs}
 use Rattle.texts.specs.laws.Runs.{run-inside}
 use Rattle.lines.specs.laws.Line.{token-head, token-tail, token-gone, token-places}
+use Rattle.lines.specs.laws.Mark.{begins-there, ends-there, beyond-gone, beyond-some}
 use Rattle.lines.proofs.tokens.mark_token.Statement.{statement}
 use Rattle.lines.proofs.tokens.mark_token.Tie as tie
 
@@ -45,7 +46,10 @@ returns c =
     record {
       from = (c .before .before .run-end .result);
       end = (c .before .token-end .result);
-      stored = refl;
+      from-is = begins-there _ _ _ _ (c .before .before .run-end .ensures) (c .before .token-end .ensures);
+      end-is = ends-there _ _ _ _ (c .before .before .run-end .ensures) (c .before .token-end .ensures);
+      r-is = beyond-gone _ _ _ _ (c .before .before .run-end .ensures) (c .before .token-end .ensures) (c .if1 .taken);
+      stored-is = refl;
       ordered = p .0;
       inside = p .1;
       told = token-head _ _ _ _ (c .before .before .run-end .ensures) (c .before .token-end .ensures);
@@ -61,7 +65,10 @@ returns-2 c =
     record {
       from = (c .before .before .run-end .result);
       end = (c .before .token-end .result);
-      stored = refl;
+      from-is = begins-there _ _ _ _ (c .before .before .run-end .ensures) (c .before .token-end .ensures);
+      end-is = ends-there _ _ _ _ (c .before .before .run-end .ensures) (c .before .token-end .ensures);
+      r-is = beyond-some _ _ _ _ (c .before .before .run-end .ensures) (c .before .token-end .ensures) (c .if1 .left);
+      stored-is = refl;
       ordered = p .0;
       inside = p .1;
       told = token-head _ _ _ _ (c .before .before .run-end .ensures) (c .before .token-end .ensures);
