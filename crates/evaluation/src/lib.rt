@@ -1,6 +1,7 @@
 // The problem as a run sees it: evaluation of all nodes, the fixed bits of all nodes, who reads each node, and a node
 // as picking sees it.
 mod above;
+mod due;
 mod operands;
 mod pairs;
 mod pass;

@@ -1,59 +1,22 @@
 // One pass over the nodes, in ascending id, so that a node comes after all that it reads: all of them are evaluated, or those that
-// read a marked one. Both are one loop with one call of `value_at`, which the compiler then makes part of it.
-ghost use mathlib.Core.Path.{_≡_};
-ghost use Prim.Native.Nat.{_≤_, _<_};
-ghost use lib.Dec.{ltb};
-ghost use lib.ListN.{length, getD};
+// read a marked one. Both are one loop with one call of `taken_at`, which the compiler then makes part of it.
+ghost use Prim.Native.Nat.{_≤_};
+ghost use lib.ListN.{length};
 ghost use Rattle.evaluation.specs.Problem.{problem};
 ghost use Rattle.evaluation.specs.inner.Evaluation.{Evaluable};
-ghost use Rattle.evaluation.specs.inner.Readers.{Tells, Markable, ReadsMarked, Wanted, Passed, Clear, Asked, Answered};
-use crate::values::value_at;
-use problem::Node;
-use problem::node_at;
+ghost use Rattle.evaluation.specs.inner.Readers.{Passed, Clear, Asked, Answered};
+use crate::values::Taken;
+use crate::values::taken_at;
 use problem::node_count;
-
-// Whether an id is marked.
-fn marked(marks: &[u8], id: u16) -> bool
-    requires { ⌜ id < length (now marks) ⌝ }
-    ensures { λ r. ⌜ r ≡ ltb 0 (getD (now (marks .entry)) id 0) ⌝ }
-{
-    0 < marks[id as usize]
-}
-
-// Whether a node reads a marked one: most kinds have two operands.
-fn reads_marked(marks: &[u8], n: Node) -> bool
-    requires { ⌜ Markable n (length (now marks)) ⌝ }
-    ensures { λ r. ⌜ Tells r (ReadsMarked (now (marks .entry)) n) ⌝ }
-{
-    let kind = n.kind;
-    match kind {
-        2 | 13 | 16 => marked(marks, n.a),
-        11 => marked(marks, n.a) | marked(marks, n.b) | marked(marks, n.c),
-        0..=1 => false,
-        _ => marked(marks, n.a) | marked(marks, n.b),
-    }
-}
-
-// Whether a node is to be evaluated.
-fn wanted(marks: &[u8], n: Node, all: bool) -> bool
-    requires { ⌜ Markable n (length (now marks)) ⌝ }
-    ensures { λ r. ⌜ Tells r (Wanted all (now (marks .entry)) n) ⌝ }
-{
-    if all {
-        return true;
-    }
-    reads_marked(marks, n)
-}
 
 // Node i evaluated and marked, if it is to be; and how many were.
 fn pass_node(bytes: &[u8], values: &mut [u64], marks: &mut [u8], i: u16, all: bool) -> u64
     requires { ⌜ Evaluable (now bytes) (now values) i × (problem (now bytes) .nodes ≤ length (now marks)) ⌝ }
     ensures { λ r. ⌜ Passed (now (bytes .entry)) i all (now (values .entry)) (now (marks .entry)) (now (values .exit)) (now (marks .exit)) r ⌝ }
 {
-    if !wanted(marks, node_at(bytes, i), all) {
+    let Taken::Value(x) = taken_at(bytes, values, marks, i, all) else {
         return 0;
-    }
-    let x = value_at(bytes, values, i);
+    };
     values[i as usize] = x;
     marks[i as usize] = 1;
     1

@@ -1,18 +1,19 @@
-// The value of one node, from what stands at its operands' places.
+// What becomes of one node: its value, from what stands at its operands' places, if it is to be evaluated.
 ghost use mathlib.Core.Path.{_≡_};
-ghost use Prim.Native.Nat.{_<_};
-ghost use lib.ListN.{length, getD};
+ghost use Prim.Native.Nat.{_≤_};
+ghost use lib.ListN.{length};
 ghost use Rattle.problem.specs.Layout.{widthAt};
-ghost use Rattle.evaluation.specs.Problem.{problem, valueOf};
+ghost use Rattle.evaluation.specs.Problem.{problem};
 ghost use Rattle.evaluation.specs.inner.Evaluation.{Readable, Evaluable};
+ghost use Rattle.evaluation.specs.inner.Readers.{Takes};
+use crate::due::Operands;
+use crate::due::operands_due;
 use problem::node_at;
 
-// What a list has at an id.
-fn read(held: &[u64], id: u16) -> u64
-    requires { ⌜ id < length (now held) ⌝ }
-    ensures { λ r. ⌜ r ≡ getD (now (held .entry)) id 0 ⌝ }
-{
-    held[id as usize]
+// What a node's place takes.
+pub(crate) enum Taken {
+    Value(u64),
+    Nothing,
 }
 
 // The width of a node, a plain read.
@@ -23,42 +24,72 @@ fn width_of(bytes: &[u8], id: u16) -> u32
     node_at(bytes, id).width as u32
 }
 
-// The value of node i: a variable's own place, a constant's lo, else what its operator gives. Each arm reads what its kind uses,
-// an operand's width too, so that no node pays for another's operands. Operand b of a concat is as wide as operand a leaves.
-pub(crate) fn value_at(bytes: &[u8], values: &[u64], i: u16) -> u64
-    requires { ⌜ Evaluable (now bytes) (now values) i ⌝ }
-    ensures { λ r. ⌜ r ≡ valueOf (problem (now (bytes .entry))) (now (values .entry)) i ⌝ }
+// The value of node i, if it is to be evaluated: a variable's own place, a constant's lo, else what its operator gives. Each arm asks
+// after the operands that its kind has and reads those alone, an operand's width too, so that there is one jump by the kind and no
+// node pays for another's operands. Operand b of a concat is as wide as operand a leaves.
+pub(crate) fn taken_at(bytes: &[u8], values: &[u64], marks: &[u8], i: u16, all: bool) -> Taken
+    requires { ⌜ Evaluable (now bytes) (now values) i × (problem (now bytes) .nodes ≤ length (now marks)) ⌝ }
+    ensures { λ r. ⌜ Takes (now (bytes .entry)) i all (now (values .entry)) (now (marks .entry)) r ⌝ }
 {
     let n = node_at(bytes, i);
     let kind = n.kind;
     let w = n.width as u32;
     match kind {
-        0 => values[i as usize],
-        1 => n.lo,
-        2 => operators::flip(read(values, n.a), w),
-        3 => read(values, n.a) & read(values, n.b),
-        4 => read(values, n.a) ^ read(values, n.b),
-        5 => operators::sum(read(values, n.a), read(values, n.b), w),
-        6 => operators::product(read(values, n.a), read(values, n.b), w),
-        7 => operators::left(read(values, n.a), read(values, n.b), w),
-        8 => operators::right(read(values, n.a), read(values, n.b)),
-        9 => (read(values, n.a) == read(values, n.b)) as u64,
-        10 => (read(values, n.a) < read(values, n.b)) as u64,
-        11 => if read(values, n.a) == 0 {
-            read(values, n.c)
-        } else {
-            read(values, n.b)
+        0 => if all {
+            return Taken::Value(values[i as usize]);
         },
-        12 => operators::join(
-            read(values, n.a),
-            read(values, n.b),
-            w - width_of(bytes, n.a),
-        ),
-        13 => operators::part(read(values, n.a), n.b as u32, w),
-        14 => operators::below_signed(read(values, n.a), read(values, n.b), width_of(bytes, n.a)),
-        15 => operators::right_signed(read(values, n.a), read(values, n.b), w),
-        16 => operators::extend(read(values, n.a), width_of(bytes, n.a), w),
-        17 => operators::quotient(read(values, n.a), read(values, n.b), w),
-        18..=255 => 0,
+        1 => if all {
+            return Taken::Value(n.lo);
+        },
+        2 => if let Operands::Are(x) = operands_due(values, marks, n, 1, all) {
+            return Taken::Value(operators::flip(x.a, w));
+        },
+        3 => if let Operands::Are(x) = operands_due(values, marks, n, 2, all) {
+            return Taken::Value(x.a & x.b);
+        },
+        4 => if let Operands::Are(x) = operands_due(values, marks, n, 2, all) {
+            return Taken::Value(x.a ^ x.b);
+        },
+        5 => if let Operands::Are(x) = operands_due(values, marks, n, 2, all) {
+            return Taken::Value(operators::sum(x.a, x.b, w));
+        },
+        6 => if let Operands::Are(x) = operands_due(values, marks, n, 2, all) {
+            return Taken::Value(operators::product(x.a, x.b, w));
+        },
+        7 => if let Operands::Are(x) = operands_due(values, marks, n, 2, all) {
+            return Taken::Value(operators::left(x.a, x.b, w));
+        },
+        8 => if let Operands::Are(x) = operands_due(values, marks, n, 2, all) {
+            return Taken::Value(operators::right(x.a, x.b));
+        },
+        9 => if let Operands::Are(x) = operands_due(values, marks, n, 2, all) {
+            return Taken::Value((x.a == x.b) as u64);
+        },
+        10 => if let Operands::Are(x) = operands_due(values, marks, n, 2, all) {
+            return Taken::Value((x.a < x.b) as u64);
+        },
+        11 => if let Operands::Are(x) = operands_due(values, marks, n, 3, all) {
+            return Taken::Value(if x.a == 0 { x.c } else { x.b });
+        },
+        12 => if let Operands::Are(x) = operands_due(values, marks, n, 2, all) {
+            return Taken::Value(operators::join(x.a, x.b, w - width_of(bytes, n.a)));
+        },
+        13 => if let Operands::Are(x) = operands_due(values, marks, n, 1, all) {
+            return Taken::Value(operators::part(x.a, n.b as u32, w));
+        },
+        14 => if let Operands::Are(x) = operands_due(values, marks, n, 2, all) {
+            return Taken::Value(operators::below_signed(x.a, x.b, width_of(bytes, n.a)));
+        },
+        15 => if let Operands::Are(x) = operands_due(values, marks, n, 2, all) {
+            return Taken::Value(operators::right_signed(x.a, x.b, w));
+        },
+        16 => if let Operands::Are(x) = operands_due(values, marks, n, 1, all) {
+            return Taken::Value(operators::extend(x.a, width_of(bytes, n.a), w));
+        },
+        17 => if let Operands::Are(x) = operands_due(values, marks, n, 2, all) {
+            return Taken::Value(operators::quotient(x.a, x.b, w));
+        },
+        18..=255 => {},
     }
+    Taken::Nothing
 }

@@ -6,7 +6,7 @@ use lib.Dec.{ltb}
 use lib.ListN.{length, getD}
 use Rattle.operators.specs.declared.meaning.Op.{Op}
 use Rattle.operators.specs.Table.{kindOf, shapeOf}
-use Rattle.operators.specs.inner.Ready.{Ternary, Ready, PairsReady}
+use Rattle.operators.specs.inner.Ready.{Ternary, PairsReady}
 use Rattle.operators.specs.declared.fixed.Pair.{Pair}
 use Rattle.operators.specs.Fixed.{pair, pairOf}
 use Rattle.problem.specs.declared.layout.Node.{Node}
@@ -57,13 +57,6 @@ Readable s i = 9 + 24 * i + 24 ≤ length s
 -- the operator of node n, with the widths that stand at its fields a and b, whether its kind uses them or not
 abbrev pub standingOp : List ℕ → Node → Op
 standingOp s n = record { kind = n .kind; width = n .width; wa = widthAt s (n .a); wb = widthAt s (n .b); low = n .b }
-
--- an operator whose operands' values stand in a list: the ids a, b and c of the positions that the kind has are places of it
-pub record Standing (op : Op) (held : List ℕ) (a b c : ℕ) : Type 0 where
-  pub ready : Ready op (getD held a 0) (getD held b 0) (getD held c 0)
-  pub first : a < length held
-  pub second : 2 ≤ shapeOf (op .kind) .operands → b < length held
-  pub third : 3 ≤ shapeOf (op .kind) .operands → c < length held
 
 -- node i of an accepted problem s, where the places vs of the nodes below it hold values of their widths
 pub record Evaluable (s vs : List ℕ) (i : ℕ) : Type 0 where

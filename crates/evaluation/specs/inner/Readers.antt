@@ -6,16 +6,19 @@ use mathlib.Core.List.{List, [], _∷_}
 use Prim.Native.Nat.{ℕ, zero, suc, _+_, _*_, _≤_, _<_, max}
 use lib.Dec.{ltb, eqb}
 use lib.ListN.{length, getD, set}
-use Rattle.operators.specs.Table.{kindCount}
 use Rattle.problem.specs.declared.layout.Node.{Node}
 use Rattle.problem.specs.Layout.{nodeAt}
 use Rattle.problem.specs.declared.Checked.the-variants.{Accepted}
 use Rattle.problem.specs.Refusals.{checked}
 use Rattle.picking.specs.declared.spot.Three.{Three}
 use Rattle.picking.specs.Spot.{at}
+use Rattle.evaluation.specs.declared.due.Operands.{Operands}
+use Rattle.evaluation.specs.declared.due.Operands.the-variants.{Are, Undue}
+use Rattle.evaluation.specs.declared.values.Taken.{Taken}
+use Rattle.evaluation.specs.declared.values.Taken.the-variants.{Value, Nothing}
 use Rattle.evaluation.specs.Problem.{problem, Variable, valueOf, evaluate}
 use Rattle.evaluation.specs.Values.{Evaluated}
-use Rattle.evaluation.specs.inner.Evaluation.{ids, operandCount, OperandsBelow, Assigned}
+use Rattle.evaluation.specs.inner.Evaluation.{ids, operandCount, OperandsBelow, heldIn, Assigned}
 use Rattle.evaluation.specs.Readers.{Reads, Above, Index}
 use Rattle.evaluation.specs.inner.Lists.{Count, ListsFrom}
 
@@ -100,7 +103,7 @@ pub record Indexed (s slots : List ℕ) : Type 0 where
   pub index : Index (problem s) slots
   pub end : (v : ℕ) → Variable (problem s) v → Ended s 0 slots v
 
--- ---- pass.rt
+-- ---- due.rt
 
 -- a test says whether something holds
 pub record Tells (r : Bool) (A : Type 0) : Type 0 where
@@ -109,11 +112,6 @@ pub record Tells (r : Bool) (A : Type 0) : Type 0 where
 
 abbrev pub Marked : List ℕ → ℕ → Type 0
 Marked marks m = 0 < getD marks m 0
-
--- a node of a known kind, whose operands have so many marks
-pub record Markable (n : Node) (k : ℕ) : Type 0 where
-  pub known : n .kind < kindCount
-  pub below : OperandsBelow n k
 
 -- a node reads a marked one
 pub record ReadsMarked (marks : List ℕ) (n : Node) : Type 0 where
@@ -124,6 +122,26 @@ pub record ReadsMarked (marks : List ℕ) (n : Node) : Type 0 where
 -- it is to be evaluated: all are, or those that do
 abbrev pub Wanted : Bool → List ℕ → Node → Type 0
 Wanted all marks n = (all ≡ true) ⊎ ReadsMarked marks n
+
+-- a node with so many operands, which have values and marks
+pub record Askable (n : Node) (count values marks : ℕ) : Type 0 where
+  pub counted : count ≡ operandCount n
+  pub valued : OperandsBelow n values
+  pub marked : OperandsBelow n marks
+
+-- its operands, if it is to be evaluated
+pub data Offered (all : Bool) (marks vs : List ℕ) (n : Node) : Operands → Type 0 where
+  offered : {x : Three} → Wanted all marks n → x ≡ heldIn vs n → Offered all marks vs n (Are x)
+  withheld : (Wanted all marks n → ⊥) → Offered all marks vs n Undue
+
+-- ---- values.rt
+
+-- what the place of node i takes
+pub data Takes (s : List ℕ) (i : ℕ) (all : Bool) (vs marks : List ℕ) : Taken → Type 0 where
+  value : {x : ℕ} → Wanted all marks (nodeAt s i) → x ≡ valueOf (problem s) vs i → Takes s i all vs marks (Value x)
+  nothing : (Wanted all marks (nodeAt s i) → ⊥) → Takes s i all vs marks Nothing
+
+-- ---- pass.rt
 
 -- what becomes of values and marks at node i, and how many are evaluated
 pub data Passed (s : List ℕ) (i : ℕ) (all : Bool) (vs marks : List ℕ) : List ℕ → List ℕ → ℕ → Type 0 where

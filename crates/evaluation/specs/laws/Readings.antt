@@ -13,7 +13,7 @@ use Rattle.operators.specs.Meaning.{meaning}
 use Rattle.operators.specs.laws.Meaning.{fit-used, meaning-known}
 use Rattle.operators.specs.declared.fixed.Pair.{Pair}
 use Rattle.operators.specs.Fixed.{pair}
-use Rattle.operators.specs.inner.Ready.{Ternary}
+use Rattle.operators.specs.inner.Ready.{Ready, Ternary}
 use Rattle.problem.specs.declared.layout.Node.{Node}
 use Rattle.picking.specs.declared.spot.Three.{Three}
 use Rattle.picking.specs.Spot.{at}
@@ -29,7 +29,7 @@ use Rattle.evaluation.specs.laws.Values.{length-evalUp, evalUp-lt}
 use Rattle.evaluation.specs.laws.Nodes.{value-own, value-constant, value-operator, pair-own, pair-operator, pairIn}
 use Rattle.evaluation.specs.laws.Pairs.{Room, length-fillUp, fillUp-ternary, pairs-filled}
 use Rattle.evaluation.specs.laws.Spot.{spot-pairs-ready}
-use Rattle.evaluation.specs.inner.Evaluation.{ids, OperandsBelow, heldIn, widthsIn, operatorIn, Readable, standingOp, Standing, Evaluable, Assigned, pairsOf, derives, Narrowed, Fillable, Unfilled, Fills, Filled}
+use Rattle.evaluation.specs.inner.Evaluation.{ids, OperandsBelow, heldIn, widthsIn, operatorIn, Readable, standingOp, Evaluable, Assigned, pairsOf, derives, Narrowed, Fillable, Unfilled, Fills, Filled}
 use Rattle.evaluation.specs.laws.Good.{good-of}
 
 -- a position that the code's test finds there
@@ -72,52 +72,60 @@ module _ (s vs : List ℕ) (i : ℕ) where
         | no x ↦ omega (arith, f .a-unused (omega arith), v .inside)
       ]
 
+  -- what stands at the positions that it has
+  stands : (f : ℕ → ℕ) (j : ℕ) → j < shapeOf (nodeAt s i .kind) .operands → f (at (ids (nodeAt s i)) j) ≡ at (three (shapeOf (nodeAt s i .kind) .operands) (λ k. f (at (ids (nodeAt s i)) k))) j
+  stands f j h = sym (at-three positions (λ k. f (at (ids n) k)) j h (few-positions (n .kind)))
+
   -- its kind is one of the table
   pub kind-there : Evaluable s vs i → nodeAt s i .kind < kindCount
   unfolding problem
   kind-there v = accepted-facts s (v .accepted) .node i (v .inside) .kind-known
 
-  -- its operator can be put to work
-  pub standing : Evaluable s vs i → 2 ≤ nodeAt s i .kind → Standing (standingOp s (nodeAt s i)) vs (nodeAt s i .a) (nodeAt s i .b) (nodeAt s i .c)
-  unfolding problem widthAt
-  standing v k =
+  -- its operator can be put to work on what its operands hold
+  pub held-ready :
+      Evaluable s vs i
+      → 2 ≤ nodeAt s i .kind
+      → Ready (standingOp s (nodeAt s i)) (heldIn vs (nodeAt s i) .a) (heldIn vs (nodeAt s i) .b) (heldIn vs (nodeAt s i) .c)
+  unfolding problem widthAt heldIn
+  held-ready v k =
       let g : Good (problem s) = good-of s (v .accepted) in
       let here = g .node i (v .inside) in
-      let inside : (j : ℕ) → j < positions → at (ids n) j < length vs =
-      λ j h. omega (arith, here .below j h, v .inside, v .places) in
-      let fits : (j : ℕ) → j < positions → getD vs (at (ids n) j) 0 < 2 ^ nodeAt s (at (ids n) j) .width =
-      λ j h. v .narrow (at (ids n) j) (here .below j h) in
+      let fits : (j : ℕ) → j < positions → at (heldIn vs n) j < 2 ^ nodeAt s (at (ids n) j) .width =
+      λ j h. rw (at-three positions (λ k. getD vs (at (ids n) k) 0) j h (few-positions (n .kind))) (v .narrow (at (ids n) j) (here .below j h)) in
       record {
-        ready = record {
-          operator = k;
-          known = here .known;
-          some = here .some;
-          wide = here .wide;
-          fit = fit-used (kindOf (n .kind)) _ _ _ _ _ _ _ _ (accepted-facts s (v .accepted) .node i (v .inside) .rule)
-              (λ h. let a = g .node (n .a) (first-inside v) in (a .some, a .wide))
-              (record { a = fits 0; b = fits 1; c = fits 2 });
-        };
-        first = omega (arith, first-inside v, v .places);
-        second = inside 1;
-        third = inside 2;
+        operator = k;
+        known = here .known;
+        some = here .some;
+        wide = here .wide;
+        fit = fit-used (kindOf (n .kind)) _ _ _ _ _ _ _ _ (accepted-facts s (v .accepted) .node i (v .inside) .rule)
+            (λ h. let a = g .node (n .a) (first-inside v) in (a .some, a .wide))
+            (record { a = fits 0; b = fits 1; c = fits 2 });
       }
 
   -- and what it gives is the node's value
+  pub held-value :
+      2 ≤ nodeAt s i .kind
+      → meaning (kindOf (nodeAt s i .kind)) (nodeAt s i .width) (widthAt s (nodeAt s i .a)) (widthAt s (nodeAt s i .b)) (nodeAt s i .b)
+      (heldIn vs (nodeAt s i) .a) (heldIn vs (nodeAt s i) .b) (heldIn vs (nodeAt s i) .c)
+      ≡ valueOf (problem s) vs i
+  unfolding problem widthAt heldIn
+  held-value k =
+      meaning-known (kindOf (n .kind)) _ _ _ _ _ _ _ _ _ _ _ _
+      (record { a = λ h. (stands (λ m. nodeAt s m .width) 0 h, refl); b = λ h. (stands (λ m. nodeAt s m .width) 1 h, refl); c = λ h. refl })
+      ∙ sym (value-operator (problem s) i vs k)
+
+  -- the same by its fields
   pub gives-value :
       2 ≤ nodeAt s i .kind
       → meaning (kindOf (nodeAt s i .kind)) (nodeAt s i .width) (widthAt s (nodeAt s i .a)) (widthAt s (nodeAt s i .b)) (nodeAt s i .b)
       (getD vs (nodeAt s i .a) 0) (getD vs (nodeAt s i .b) 0) (getD vs (nodeAt s i .c) 0)
       ≡ valueOf (problem s) vs i
-  unfolding problem widthAt
+  unfolding heldIn
   gives-value k =
-      let few = few-positions (n .kind) in
-      let stands : (f : ℕ → ℕ) (j : ℕ) → j < positions → f (at (ids n) j) ≡ at (three positions (λ k. f (at (ids n) k))) j =
-      λ f j h. sym (at-three positions (λ k. f (at (ids n) k)) j h few) in
-      let w : ℕ → ℕ = λ m. nodeAt s m .width in
       let u : ℕ → ℕ = λ m. getD vs m 0 in
       meaning-known (kindOf (n .kind)) _ _ _ _ _ _ _ _ _ _ _ _
-      (record { a = λ h. (stands w 0 h, stands u 0 h); b = λ h. (stands w 1 h, stands u 1 h); c = stands u 2 })
-      ∙ sym (value-operator (problem s) i vs k)
+      (record { a = λ h. (refl, stands u 0 h); b = λ h. (refl, stands u 1 h); c = stands u 2 })
+      ∙ held-value k
 
   pub own-value : nodeAt s i .kind ≡ 0 → getD vs i 0 ≡ valueOf (problem s) vs i
   unfolding problem
@@ -248,10 +256,10 @@ node-there s i a h = node-inside (accepted-facts s a) i h
 -- ---- node i of an accepted problem, as it was read
 
 module _ (s vs : List ℕ) (i : ℕ) {m : Node} (e : m ≡ nodeAt s i) where
-  -- the places of its operands are there
-  pub reads : Evaluable s vs i → (j : ℕ) → j < shapeOf (m .kind) .operands → at (ids m) j < length vs
+  -- its operands have lower ids
+  pub operands-below : Evaluable s vs i → (j : ℕ) → j < shapeOf (m .kind) .operands → at (ids m) j < i
   unfolding problem
-  reads v j h = rw e (omega (arith, good-of s (v .accepted) .node i (v .inside) .below j (rw e at h), v .inside, v .places))
+  operands-below v j h = rw e (good-of s (v .accepted) .node i (v .inside) .below j (rw e at h))
 
   -- it has a width
   pub sized : Evaluable s vs i → (1 ≤ m .width) × (m .width ≤ 64)
@@ -261,14 +269,3 @@ module _ (s vs : List ℕ) (i : ℕ) {m : Node} (e : m ≡ nodeAt s i) where
   -- and the bytes of its operand a are there
   pub first-readable : Evaluable s vs i → Readable s (m .a)
   first-readable v = rw e (node-there s (nodeAt s i .a) (v .accepted) (first-inside s vs i v))
-
-  pub stands : Evaluable s vs i → 2 ≤ m .kind → Standing (standingOp s m) vs (m .a) (m .b) (m .c)
-  stands v k = rw e (standing s vs i v (rw e at k))
-
-  pub gives :
-      {r : ℕ}
-      → r ≡ meaning (kindOf (m .kind)) (m .width) (widthAt s (m .a)) (widthAt s (m .b)) (m .b)
-      (getD vs (m .a) 0) (getD vs (m .b) 0) (getD vs (m .c) 0)
-      → 2 ≤ m .kind
-      → r ≡ valueOf (problem s) vs i
-  gives g k = (rw e at g) ∙ gives-value s vs i (rw e at k)
