@@ -9,6 +9,7 @@
 //! | `refused` | picks whose arguments are not those of a node                                 |
 //! | `runs`    | checks and whole runs, with every verdict and refusal counted                 |
 //! | `more`    | pairs of runs, of which the second is lent a greater budget and more words    |
+//! | `guided`  | runs that the guide wrote the tape of                                         |
 //! | `need`    | how long a tape a run takes, and problems that use every word of it           |
 //! | `batches` | many starts of one problem at once, and each by a run of its own              |
 //! | `gatherings` | solutions that differ on named variables: kept, repeats and unkept          |
@@ -25,6 +26,7 @@ pub mod btor2;
 pub mod fixed;
 pub mod gatherings;
 pub mod mends;
+pub mod guided;
 pub mod models;
 pub mod more;
 pub mod narrow;

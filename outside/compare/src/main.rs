@@ -71,6 +71,14 @@ enum What {
         #[arg(long, default_value_t = 20_000)]
         cases: u64,
     },
+    /// Guided runs: the guide's moves, steps, words and values, and whether they are a model
+    Guided {
+        #[arg(long, default_value_t = 100_000)]
+        cases: u64,
+        /// Where the files of a difference are written to
+        #[arg(long, value_name = "FOLDER", default_value = "differences")]
+        out: PathBuf,
+    },
     /// Problems that use every word of the tape that they may need, and say ended with one word less
     Need,
     /// What is said of other solvers' models: get-model answers well formed, damaged, and with every refusal
@@ -133,6 +141,7 @@ fn compare(subject: &(impl Subject + Batches + Mender + Converts), line: &Line) 
         What::More { cases, out } => pairs(subject, line.seed, *cases, out),
         What::Batches { cases } => whole_batches(subject, line.seed, *cases),
         What::Gatherings { cases } => whole_gatherings(line, *cases),
+        What::Guided { cases, out } => guided_runs(subject, line.seed, *cases, out),
         What::Need => whole_tapes(subject, line.seed),
         What::Models { cases, out } => answers(line, *cases, out),
         What::Mends { cases, out } => mended(subject, line.seed, *cases, out),
@@ -289,6 +298,26 @@ fn whole_gatherings(line: &Line, cases: u64) -> Result<(), String> {
     match counts.missing().as_slice() {
         [] => Ok(()),
         missing => Err(format!("never reached: {}", missing.join(", "))),
+    }
+}
+
+fn guided_runs(subject: &impl Subject, seed: u64, cases: u64, out: &Path) -> Result<(), String> {
+    let start = Instant::now();
+    let counts =
+        compare::guided::compare(subject, seed, cases).map_err(|difference| kept(&difference, seed, out))?;
+    println!(
+        "guided: {cases} runs (model {}, spent {}, closed {}), {} moves, {} steps, {} walks tried, no difference, {}",
+        counts.models,
+        counts.spent,
+        counts.closed,
+        counts.moves,
+        counts.steps,
+        counts.tried,
+        seconds(start)
+    );
+    match [counts.models, counts.spent, counts.closed].contains(&0) {
+        true => Err("a verdict was never reached".into()),
+        false => Ok(()),
     }
 }
 
