@@ -39,22 +39,25 @@ impl Draw {
         ChaCha8Rng::seed_from_u64(self.seed)
     }
 
-    /// A word for each node (for a variable a value that agrees, 0 elsewhere), and the words that a run from there asks for,
-    /// at most so many.
+    /// A word for each node: for a variable a value that agrees, 0 elsewhere.
+    pub fn start(&self, problem: &Accepted, chance: &mut ChaCha8Rng) -> Vec<u64> {
+        let word = |node: &Node| match node.kind {
+            Kind::Variable if self.least => node.pair.lo,
+            Kind::Variable => node.pair.lo | chance.next_u64() & node.pair.open(),
+            _ => 0,
+        };
+        problem.problem.nodes.iter().map(word).collect()
+    }
+
+    /// A start, and the words that a run from there asks for, at most so many.
     pub fn start_and_words(
         &self,
         problem: &Accepted,
         chance: &mut ChaCha8Rng,
         most: usize,
     ) -> Result<(Vec<u64>, Vec<u64>), String> {
-        let word = |node: &Node| match node.kind {
-            Kind::Variable if self.least => node.pair.lo,
-            Kind::Variable => node.pair.lo | chance.next_u64() & node.pair.open(),
-            _ => 0,
-        };
-        let start: Vec<u64> = problem.problem.nodes.iter().map(word).collect();
-        let search = Search::accept(&problem.bytes, &start)
-            .map_err(|refusal| format!("the model refuses it: {} at {}", refusal.number, refusal.place))?;
+        let start = self.start(problem, chance);
+        let search = search(problem, &start)?;
         let proposals = if self.uniform { Proposals::Uniform } else { Proposals::Shifted };
         let manner = Manner { inverse: self.inverse.into(), proposals };
         let (words, _) = drawn(&search, &start, self.budget, Drawn::new(|| chance.next_u64(), manner, most));
@@ -72,6 +75,12 @@ impl Draw {
         }
         Ok((starts, tapes))
     }
+}
+
+/// The outside's own search from a start, by which tapes are made.
+pub fn search(problem: &Accepted, start: &[u64]) -> Result<Search, String> {
+    Search::accept(&problem.bytes, start)
+        .map_err(|refusal| format!("the model refuses it: {} at {}", refusal.number, refusal.place))
 }
 
 /// How many words serve every run of a problem from a file with the budget, from whatever start.

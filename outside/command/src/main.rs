@@ -7,16 +7,26 @@
 //! | `files`    | reading, writing and printing                             |
 //! | `problem`  | an accepted problem from a file                           |
 //! | `draw`     | starts and tapes by chance                                |
+//! | `given`    | a problem from a file of any sort, with its inputs' names |
+//! | `btor2`    | what is read of BTOR2 beside the library's converter      |
+//! | `known`    | a known solution from a file                              |
+//! | `found`    | a model in the forms that it is printed in                |
+//! | `progress` | the line on a terminal that tells how far it is           |
 //! | `names`    | lists of the variables' names                             |
 //! | `fault`    | what goes wrong, in words for the user                    |
 //! | `started`  | what has to be looked at before Rust's own start          |
 
+mod btor2;
 mod commands;
 mod draw;
 mod fault;
 mod files;
+mod found;
+mod given;
+mod known;
 mod names;
 mod problem;
+mod progress;
 mod started;
 
 use clap::Parser;
@@ -36,7 +46,7 @@ struct Line {
 const STATUS: &str = "\
 Where a file is read or written, '-' is standard input or output.
 Exit status: 0 done; 1 refused, or a file cannot be read or written; 2 the command line is not understood.
-run, batch, gather and model have more.";
+run, batch, gather, solve and model have more.";
 
 fn main() -> ExitCode {
     let mut trouble = ExitCode::FAILURE;

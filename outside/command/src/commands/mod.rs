@@ -12,6 +12,7 @@ mod model;
 mod need;
 mod run;
 mod show;
+mod solve;
 mod tape;
 
 use crate::fault::Fault;
@@ -30,6 +31,7 @@ pub enum Command {
     Run(run::Args),
     Batch(batch::Args),
     Gather(gather::Args),
+    Solve(solve::Args),
     Export(export::Args),
     Model(model::Args),
     Example(example::Args),
@@ -56,6 +58,7 @@ impl Command {
             Command::Run(args) => run::run(&args),
             Command::Batch(args) => batch::run(&args),
             Command::Gather(args) => gather::run(&args),
+            Command::Solve(args) => solve::run(&args),
             Command::Export(args) => export::run(&args),
             Command::Model(args) => model::run(&args),
             Command::Example(args) => example::run(&args),

@@ -1,13 +1,17 @@
-//! walumpeh tape: a start and a tape from a seed, or many of them.
+//! walumpeh tape: a start and a tape from a seed, or many of them, or the tape to a known solution.
 
 use crate::draw::{self, Draw};
 use crate::fault::Fault;
 use crate::files::write::{self, Output};
+use crate::known;
+use crate::names;
 use crate::problem::{accepted, Accepted};
 use model::files::{bytes_of, tape_file};
+use model::recipe;
 use rand_chacha::rand_core::RngCore;
 use std::path::{Path, PathBuf};
 use std::process::ExitCode;
+use walumpeh::Verdict;
 
 /// Make a start and a tape for a problem from a seed, or many starts with their tapes
 ///
@@ -20,6 +24,12 @@ use std::process::ExitCode;
 ///
 /// With --starts K the files are for 'walumpeh batch': K starts one after the other, and for each the words
 /// that a run from it asks for, no more. The first is that of the same seed without --starts.
+///
+/// With --to the tape leads to a known solution, as demand 3 says: from a start that differs from it in d
+/// variables in at most d moves and d x (1 + 2H) words. Prints two lines
+///     differing variables D
+///     words W of at most D x (1 + 2H)
+/// The solution is a get-model answer of another solver, what run or solve printed, or a word for each node.
 #[derive(clap::Args)]
 #[command(verbatim_doc_comment)]
 pub struct Args {
@@ -37,10 +47,19 @@ pub struct Args {
     /// So many starts, at most 256, with a tape for each
     #[arg(long, value_name = "K", value_parser = clap::value_parser!(u16).range(0..=256))]
     starts: Option<u16>,
+    /// Make the tape that leads to the solution in a file; its moves are the budget
+    #[arg(long, value_name = "VALUES", conflicts_with_all = ["budget", "inverse", "uniform", "words", "starts"])]
+    to: Option<PathBuf>,
+    /// Call the variables by a list of names, one a line, where the solution has them; n and the id otherwise
+    #[arg(long, value_name = "FILE", requires = "to")]
+    names: Option<PathBuf>,
 }
 
 pub fn run(args: &Args) -> Result<ExitCode, Fault> {
     let problem = accepted(&args.problem)?;
+    if let Some(values) = &args.to {
+        return to(args, &problem, values);
+    }
     let need = draw::need(&args.problem, &problem, args.draw.budget)?;
     let most = args.words.map_or(need, |most| most.min(need)) as usize;
     let (start, tape, names) = match args.starts {
@@ -69,4 +88,56 @@ fn one(args: &Args, problem: &Accepted, length: usize) -> Result<(Vec<u8>, Vec<u
 fn many(args: &Args, problem: &Accepted, count: u16, most: usize) -> Result<(Vec<u8>, Vec<u8>), String> {
     let (starts, tapes) = args.draw.many(problem, count, most)?;
     Ok((bytes_of(&starts), tapes.bytes()))
+}
+
+/// The files of demand 3's tape.
+fn to(args: &Args, problem: &Accepted, values: &Path) -> Result<ExitCode, Fault> {
+    let names = match &args.names {
+        Some(list) => names::read(list, &problem.problem)?,
+        None => names::numbered(&problem.problem),
+    };
+    let solution = known::solution(values, problem, &names)?;
+    let way = way(args, problem, &solution).map_err(|fault| Fault::at(&args.problem, fault))?;
+    let most = problem.problem.words_for(way.distance.into());
+    let said = format!("differing variables {}\nwords {} of at most {most}\n", way.distance, way.tape.len());
+    let outputs = [
+        Output { path: Path::new("-"), bytes: said.into_bytes() },
+        Output { path: args.start.as_deref().unwrap_or(Path::new("start.bin")), bytes: bytes_of(&way.start) },
+        Output {
+            path: args.tape.as_deref().unwrap_or(Path::new("tape.bin")),
+            bytes: tape_file(way.distance, &way.tape),
+        },
+    ];
+    let lists: Vec<&Path> = args.names.iter().map(PathBuf::as_path).collect();
+    write::all(&outputs, &[&[args.problem.as_path(), values], &lists[..]].concat())?;
+    Ok(ExitCode::SUCCESS)
+}
+
+/// A start, in how many variables it differs from a solution, and the tape that leads there.
+struct Way {
+    start: Vec<u64>,
+    distance: u16,
+    tape: Vec<u64>,
+}
+
+/// The way to a solution, which the proved run goes before it is told.
+fn way(args: &Args, problem: &Accepted, solution: &[u64]) -> Result<Way, String> {
+    let mut chance = args.draw.chance();
+    let start = args.draw.start(problem, &mut chance);
+    let search = draw::search(problem, &start)?;
+    let mut now = start.clone();
+    problem.problem.evaluate(&mut now);
+    let distance = recipe::distance(&search, &now, solution) as u16;
+    let tape = recipe::tape(&search, &now, solution, &mut || chance.next_u64());
+    let answer =
+        walumpeh::run(&problem.bytes, &mut now, &tape, distance).map_err(|refusal| refusal.to_string())?;
+    let words = tape.len() as u64;
+    if answer.verdict != Verdict::Model
+        || answer.words != words
+        || words > problem.problem.words_for(distance.into())
+    {
+        let said = answer.verdict.name();
+        return Err(format!("the tape of {words} words leads to '{said}': it is wrong"));
+    }
+    Ok(Way { start, distance, tape })
 }

@@ -43,7 +43,12 @@ pub fn any(path: &Path) -> Result<Vec<u8>, Fault> {
 }
 
 pub fn text(path: &Path) -> Result<String, Fault> {
-    String::from_utf8(any(path)?).map_err(|fault| {
+    utf8(path, any(path)?)
+}
+
+/// A file's bytes as text.
+pub fn utf8(path: &Path, bytes: Vec<u8>) -> Result<String, Fault> {
+    String::from_utf8(bytes).map_err(|fault| {
         let before = &fault.as_bytes()[..fault.utf8_error().valid_up_to()];
         let line = 1 + before.iter().filter(|&&byte| byte == b'\n').count();
         Fault::at(path, format!("line {line}: not text: a byte that is not UTF-8"))

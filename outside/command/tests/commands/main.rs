@@ -11,5 +11,6 @@ mod help;
 mod mends;
 mod models;
 mod printing;
+mod solve;
 mod tour;
 mod writing;
