@@ -1,12 +1,12 @@
 //! walumpeh convert: a problem file from BTOR2.
 
+use crate::btor2::converted;
 use crate::fault::Fault;
 use crate::files::read;
 use crate::files::write::{self, Output};
 use model::btor2;
-use std::path::{Path, PathBuf};
+use std::path::PathBuf;
 use std::process::ExitCode;
-use walumpeh::LineRefusal;
 
 /// Make a problem file from BTOR2, as yosys writes it
 ///
@@ -43,9 +43,7 @@ What brings a module of Verilog into the list is in scripts/btor2-examples.";
 
 pub fn run(args: &Args) -> Result<ExitCode, Fault> {
     let text = read::any(&args.text)?;
-    let mut bytes = vec![0; walumpeh::LONGEST_PROBLEM];
-    let length = walumpeh::btor2(&text, &mut bytes).map_err(|refusal| refused(&args.text, &text, refusal))?;
-    bytes.truncate(length);
+    let bytes = converted(&args.text, &text)?;
     if bytes[7..9] == [0, 0] && !args.rootless {
         let none = "no constraint: every start would be a model (--rootless allows it)";
         return Err(Fault::at(&args.text, none));
@@ -57,15 +55,4 @@ pub fn run(args: &Args) -> Result<ExitCode, Fault> {
     }
     write::all(&outputs, &[&args.text])?;
     Ok(ExitCode::SUCCESS)
-}
-
-/// `IN:LINE: refused NUMBER: what is wrong`. Number and line are the library's; the model has the words, where it says
-/// the same.
-fn refused(path: &Path, text: &[u8], refusal: LineRefusal) -> Fault {
-    let LineRefusal { number, line } = refusal;
-    let what = match btor2::convert(text, walumpeh::LONGEST_PROBLEM) {
-        Err(fault) if (fault.number, fault.line as u64) == (number, line) => fault.what,
-        _ => refusal.meaning().into(),
-    };
-    Fault::Told(format!("{}:{line}: refused {number}: {what}", path.display()))
 }

@@ -178,6 +178,32 @@ fn what_cannot_be_solved() {
     assert!(!at.path("new.bin").exists());
 }
 
+/// BTOR2 as yosys writes it, and the line that fails.
+#[test]
+fn problems_in_btor2() {
+    let at = At::new("btor2");
+    let sum =
+        "; by hand\n1 sort bitvec 8\n2 input 1 a;b\n3 input 1\n4 add 1 2 3\n5 consth 1 c8\n6 sort bitvec 1\n\
+        7 eq 6 4 5\n8 ult 6 2 3\n9 constraint 7\n10 constraint 8 ; a;b < 3\n";
+    at.write("sum.btor2", sum);
+    let printed = ends(&at, "solve sum.btor2 --start start.bin --tape tape.bin", 10);
+    let (a, b) = (value(&printed, "a;b"), value(&printed, "3"));
+    assert!(a < b && (a + b) % 256 == 200, "{printed}");
+    let witness = ends(&at, "solve sum.btor2 --format btor2", 10);
+    assert_eq!(witness, format!("sat\nb0\n#0\n@0\n0 {a:08b} a;b@0\n1 {b:08b} 3@0\n.\n"));
+    at.prints("convert sum.btor2 sum.tbv --names names.txt", "");
+    assert_eq!(ends(&at, "solve sum.tbv --names names.txt", 10), printed);
+    let first = printed.lines().next().unwrap();
+    at.prints("run sum.tbv start.bin tape.bin", &format!("{first}\n0 {a}\n1 {b}\n"));
+    at.write("bad.btor2", sum.replace("ult 6 2 3", "ult 6 2 4711"));
+    let output = at.run("solve bad.btor2");
+    assert_eq!(output.status.code(), Some(1));
+    let said = text(&output.stderr);
+    assert!(said.starts_with("walumpeh: bad.btor2:9: refused 3: "), "{said}");
+    at.write("free.btor2", "1 sort bitvec 8\n2 input 1\n");
+    at.fails("solve free.btor2", "free.btor2: no root or constraint: every start would be a model");
+}
+
 #[test]
 fn lines_of_solve_that_are_not_understood() {
     let at = sum("solve-lines");
