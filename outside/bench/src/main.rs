@@ -15,6 +15,8 @@ mod plot;
 mod runs;
 mod share;
 mod solve;
+mod solved;
+mod verilog;
 mod workload;
 
 use clap::Parser;
@@ -40,10 +42,9 @@ enum Line {
     Picks(Rounds),
     /// Microseconds to put 1,024 nodes in order, beside plain Rust
     Mends(Rounds),
-    /// Cost as the nodes, the budget and what is above a variable grow; a plot where asked for
     /// BTOR2 converted, beside plain Rust with a hash map
     Convert(Rounds),
-    /// Cost as the nodes and as the budget grow; a plot where asked for
+    /// Cost as the nodes, the budget and what is above a variable grow; a plot where asked for
     Growth {
         #[command(flatten)]
         rounds: Rounds,
@@ -74,6 +75,8 @@ enum Line {
         #[arg(long, default_value_t = 10)]
         seconds: u64,
     },
+    /// Time to a model on problems made from Verilog, beside z3, cvc5 and boolector; a plot where asked for
+    Verilog(verilog::Asked),
     /// The runs of a family some times over, by library, plain, plain-all or before: for counting
     Work { side: String, family: String, times: usize },
 }
@@ -113,6 +116,7 @@ fn measure(line: &Line) -> Result<(), String> {
         Line::Share => share::table(),
         Line::Moves { tapes, budget } => moves::table(*tapes, *budget),
         Line::Solve { seconds } => solve::table(*seconds)?,
+        Line::Verilog(asked) => verilog::table(asked)?,
         Line::Work { side, family, times } => instructions::work(side, family, *times)?,
     }
     Ok(())

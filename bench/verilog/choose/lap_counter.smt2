@@ -1,0 +1,89 @@
+(set-logic QF_BV)
+(define-sort |top_s| () (_ BitVec 25))
+(define-fun |top_is| ((state |top_s|)) Bool (= ((_ extract 0 0) state) #b1))
+(define-fun |top#0| ((state |top_s|)) (_ BitVec 8) ((_ extract 8 1) state)) ; \length
+(define-fun |top_n length| ((state |top_s|)) (_ BitVec 8) (|top#0| state))
+(define-fun |top#1| ((state |top_s|)) (_ BitVec 16) ((_ extract 24 9) state)) ; \ticks
+(define-fun |top_n ticks| ((state |top_s|)) (_ BitVec 16) (|top#1| state))
+(define-fun |top#2| ((state |top_s|)) Bool (bvult #b01100100 (|top#0| state))) ; $0$formal$choose/lap_counter.v:5$1_CHECK[0:0]$7
+(define-fun |top_u 0| ((state |top_s|)) Bool (or (|top#2| state) (not true))) ; $assume$choose/lap_counter.v:5$16
+(define-fun |top#3| ((state |top_s|)) (_ BitVec 17) (bvsub (concat #b0000000000000000 ((_ extract 15 15) (|top#1| state))) (concat #b000000000 (|top#0| state)))) ; $techmap$div$choose/lap_counter.v:3$4.division.$sub$map.v:154$33_Y
+(define-fun |top#4| ((state |top_s|)) Bool (bvult (concat #b0000000000000000 ((_ extract 15 15) (|top#1| state))) (concat #b000000000 (|top#0| state)))) ; $div$choose/lap_counter.v:3$4.division.bit[15].too_small
+(define-fun |top#5| ((state |top_s|)) (_ BitVec 17) (ite (|top#4| state) (concat #b0000000000000000 ((_ extract 15 15) (|top#1| state))) (|top#3| state))) ; { $div$choose/lap_counter.v:3$4.division.bit[15].after [16] $div$choose/lap_counter.v:3$4.division.bit[14].before [16:1] }
+(define-fun |top#6| ((state |top_s|)) (_ BitVec 17) (bvsub (concat ((_ extract 15 0) (|top#5| state)) ((_ extract 14 14) (|top#1| state))) (concat #b000000000 (|top#0| state)))) ; $techmap$div$choose/lap_counter.v:3$4.division.$sub$map.v:154$37_Y
+(define-fun |top#7| ((state |top_s|)) Bool (bvult (concat ((_ extract 15 0) (|top#5| state)) ((_ extract 14 14) (|top#1| state))) (concat #b000000000 (|top#0| state)))) ; $div$choose/lap_counter.v:3$4.division.bit[14].too_small
+(define-fun |top#8| ((state |top_s|)) (_ BitVec 17) (ite (|top#7| state) (concat ((_ extract 15 0) (|top#5| state)) ((_ extract 14 14) (|top#1| state))) (|top#6| state))) ; { $div$choose/lap_counter.v:3$4.division.bit[14].after [16] $div$choose/lap_counter.v:3$4.division.bit[13].before [16:1] }
+(define-fun |top#9| ((state |top_s|)) (_ BitVec 17) (bvsub (concat ((_ extract 15 0) (|top#8| state)) ((_ extract 13 13) (|top#1| state))) (concat #b000000000 (|top#0| state)))) ; $techmap$div$choose/lap_counter.v:3$4.division.$sub$map.v:154$41_Y
+(define-fun |top#10| ((state |top_s|)) Bool (bvult (concat ((_ extract 15 0) (|top#8| state)) ((_ extract 13 13) (|top#1| state))) (concat #b000000000 (|top#0| state)))) ; $div$choose/lap_counter.v:3$4.division.bit[13].too_small
+(define-fun |top#11| ((state |top_s|)) (_ BitVec 17) (ite (|top#10| state) (concat ((_ extract 15 0) (|top#8| state)) ((_ extract 13 13) (|top#1| state))) (|top#9| state))) ; { $div$choose/lap_counter.v:3$4.division.bit[13].after [16] $div$choose/lap_counter.v:3$4.division.bit[12].before [16:1] }
+(define-fun |top#12| ((state |top_s|)) (_ BitVec 17) (bvsub (concat ((_ extract 15 0) (|top#11| state)) ((_ extract 12 12) (|top#1| state))) (concat #b000000000 (|top#0| state)))) ; $techmap$div$choose/lap_counter.v:3$4.division.$sub$map.v:154$45_Y
+(define-fun |top#13| ((state |top_s|)) Bool (bvult (concat ((_ extract 15 0) (|top#11| state)) ((_ extract 12 12) (|top#1| state))) (concat #b000000000 (|top#0| state)))) ; $div$choose/lap_counter.v:3$4.division.bit[12].too_small
+(define-fun |top#14| ((state |top_s|)) (_ BitVec 17) (ite (|top#13| state) (concat ((_ extract 15 0) (|top#11| state)) ((_ extract 12 12) (|top#1| state))) (|top#12| state))) ; { $div$choose/lap_counter.v:3$4.division.bit[12].after [16] $div$choose/lap_counter.v:3$4.division.bit[11].before [16:1] }
+(define-fun |top#15| ((state |top_s|)) (_ BitVec 17) (bvsub (concat ((_ extract 15 0) (|top#14| state)) ((_ extract 11 11) (|top#1| state))) (concat #b000000000 (|top#0| state)))) ; $techmap$div$choose/lap_counter.v:3$4.division.$sub$map.v:154$49_Y
+(define-fun |top#16| ((state |top_s|)) Bool (bvult (concat ((_ extract 15 0) (|top#14| state)) ((_ extract 11 11) (|top#1| state))) (concat #b000000000 (|top#0| state)))) ; $div$choose/lap_counter.v:3$4.division.bit[11].too_small
+(define-fun |top#17| ((state |top_s|)) (_ BitVec 17) (ite (|top#16| state) (concat ((_ extract 15 0) (|top#14| state)) ((_ extract 11 11) (|top#1| state))) (|top#15| state))) ; { $div$choose/lap_counter.v:3$4.division.bit[11].after [16] $div$choose/lap_counter.v:3$4.division.bit[10].before [16:1] }
+(define-fun |top#18| ((state |top_s|)) (_ BitVec 17) (bvsub (concat ((_ extract 15 0) (|top#17| state)) ((_ extract 10 10) (|top#1| state))) (concat #b000000000 (|top#0| state)))) ; $techmap$div$choose/lap_counter.v:3$4.division.$sub$map.v:154$53_Y
+(define-fun |top#19| ((state |top_s|)) Bool (bvult (concat ((_ extract 15 0) (|top#17| state)) ((_ extract 10 10) (|top#1| state))) (concat #b000000000 (|top#0| state)))) ; $div$choose/lap_counter.v:3$4.division.bit[10].too_small
+(define-fun |top#20| ((state |top_s|)) (_ BitVec 17) (ite (|top#19| state) (concat ((_ extract 15 0) (|top#17| state)) ((_ extract 10 10) (|top#1| state))) (|top#18| state))) ; $div$choose/lap_counter.v:3$4.division.bit[10].after
+(define-fun |top#21| ((state |top_s|)) (_ BitVec 17) (bvsub (concat ((_ extract 15 0) (|top#20| state)) ((_ extract 9 9) (|top#1| state))) (concat #b000000000 (|top#0| state)))) ; $techmap$div$choose/lap_counter.v:3$4.division.$sub$map.v:154$57_Y
+(define-fun |top#22| ((state |top_s|)) Bool (bvult (concat ((_ extract 15 0) (|top#20| state)) ((_ extract 9 9) (|top#1| state))) (concat #b000000000 (|top#0| state)))) ; $div$choose/lap_counter.v:3$4.division.bit[9].too_small
+(define-fun |top#23| ((state |top_s|)) (_ BitVec 17) (ite (|top#22| state) (concat ((_ extract 15 0) (|top#20| state)) ((_ extract 9 9) (|top#1| state))) (|top#21| state))) ; { $div$choose/lap_counter.v:3$4.division.bit[9].after [16] $div$choose/lap_counter.v:3$4.division.bit[8].before [16:1] }
+(define-fun |top#24| ((state |top_s|)) (_ BitVec 17) (bvsub (concat ((_ extract 15 0) (|top#23| state)) ((_ extract 8 8) (|top#1| state))) (concat #b000000000 (|top#0| state)))) ; $techmap$div$choose/lap_counter.v:3$4.division.$sub$map.v:154$61_Y
+(define-fun |top#25| ((state |top_s|)) Bool (bvult (concat ((_ extract 15 0) (|top#23| state)) ((_ extract 8 8) (|top#1| state))) (concat #b000000000 (|top#0| state)))) ; $div$choose/lap_counter.v:3$4.division.bit[8].too_small
+(define-fun |top#26| ((state |top_s|)) (_ BitVec 17) (ite (|top#25| state) (concat ((_ extract 15 0) (|top#23| state)) ((_ extract 8 8) (|top#1| state))) (|top#24| state))) ; { $div$choose/lap_counter.v:3$4.division.bit[8].after [16] $div$choose/lap_counter.v:3$4.division.bit[7].before [16:1] }
+(define-fun |top#27| ((state |top_s|)) (_ BitVec 17) (bvsub (concat ((_ extract 15 0) (|top#26| state)) ((_ extract 7 7) (|top#1| state))) (concat #b000000000 (|top#0| state)))) ; $techmap$div$choose/lap_counter.v:3$4.division.$sub$map.v:154$65_Y
+(define-fun |top#28| ((state |top_s|)) Bool (bvult (concat ((_ extract 15 0) (|top#26| state)) ((_ extract 7 7) (|top#1| state))) (concat #b000000000 (|top#0| state)))) ; $div$choose/lap_counter.v:3$4.division.bit[7].too_small
+(define-fun |top#29| ((state |top_s|)) (_ BitVec 17) (ite (|top#28| state) (concat ((_ extract 15 0) (|top#26| state)) ((_ extract 7 7) (|top#1| state))) (|top#27| state))) ; { $div$choose/lap_counter.v:3$4.division.bit[7].after [16] $div$choose/lap_counter.v:3$4.division.bit[6].before [16:1] }
+(define-fun |top#30| ((state |top_s|)) (_ BitVec 17) (bvsub (concat ((_ extract 15 0) (|top#29| state)) ((_ extract 6 6) (|top#1| state))) (concat #b000000000 (|top#0| state)))) ; $techmap$div$choose/lap_counter.v:3$4.division.$sub$map.v:154$69_Y
+(define-fun |top#31| ((state |top_s|)) Bool (bvult (concat ((_ extract 15 0) (|top#29| state)) ((_ extract 6 6) (|top#1| state))) (concat #b000000000 (|top#0| state)))) ; $div$choose/lap_counter.v:3$4.division.bit[6].too_small
+(define-fun |top#32| ((state |top_s|)) (_ BitVec 17) (ite (|top#31| state) (concat ((_ extract 15 0) (|top#29| state)) ((_ extract 6 6) (|top#1| state))) (|top#30| state))) ; { $div$choose/lap_counter.v:3$4.division.bit[6].after [16] $div$choose/lap_counter.v:3$4.division.bit[5].before [16:1] }
+(define-fun |top#33| ((state |top_s|)) (_ BitVec 17) (bvsub (concat ((_ extract 15 0) (|top#32| state)) ((_ extract 5 5) (|top#1| state))) (concat #b000000000 (|top#0| state)))) ; $techmap$div$choose/lap_counter.v:3$4.division.$sub$map.v:154$73_Y
+(define-fun |top#34| ((state |top_s|)) Bool (bvult (concat ((_ extract 15 0) (|top#32| state)) ((_ extract 5 5) (|top#1| state))) (concat #b000000000 (|top#0| state)))) ; $div$choose/lap_counter.v:3$4.division.bit[5].too_small
+(define-fun |top#35| ((state |top_s|)) (_ BitVec 17) (ite (|top#34| state) (concat ((_ extract 15 0) (|top#32| state)) ((_ extract 5 5) (|top#1| state))) (|top#33| state))) ; { $div$choose/lap_counter.v:3$4.division.bit[5].after [16] $div$choose/lap_counter.v:3$4.division.bit[4].before [16:1] }
+(define-fun |top#36| ((state |top_s|)) (_ BitVec 17) (bvsub (concat ((_ extract 15 0) (|top#35| state)) ((_ extract 4 4) (|top#1| state))) (concat #b000000000 (|top#0| state)))) ; $techmap$div$choose/lap_counter.v:3$4.division.$sub$map.v:154$77_Y
+(define-fun |top#37| ((state |top_s|)) Bool (bvult (concat ((_ extract 15 0) (|top#35| state)) ((_ extract 4 4) (|top#1| state))) (concat #b000000000 (|top#0| state)))) ; $div$choose/lap_counter.v:3$4.division.bit[4].too_small
+(define-fun |top#38| ((state |top_s|)) (_ BitVec 17) (ite (|top#37| state) (concat ((_ extract 15 0) (|top#35| state)) ((_ extract 4 4) (|top#1| state))) (|top#36| state))) ; { $div$choose/lap_counter.v:3$4.division.bit[4].after [16] $div$choose/lap_counter.v:3$4.division.bit[3].before [16:1] }
+(define-fun |top#39| ((state |top_s|)) (_ BitVec 17) (bvsub (concat ((_ extract 15 0) (|top#38| state)) ((_ extract 3 3) (|top#1| state))) (concat #b000000000 (|top#0| state)))) ; $techmap$div$choose/lap_counter.v:3$4.division.$sub$map.v:154$81_Y
+(define-fun |top#40| ((state |top_s|)) Bool (bvult (concat ((_ extract 15 0) (|top#38| state)) ((_ extract 3 3) (|top#1| state))) (concat #b000000000 (|top#0| state)))) ; $div$choose/lap_counter.v:3$4.division.bit[3].too_small
+(define-fun |top#41| ((state |top_s|)) (_ BitVec 17) (ite (|top#40| state) (concat ((_ extract 15 0) (|top#38| state)) ((_ extract 3 3) (|top#1| state))) (|top#39| state))) ; { $div$choose/lap_counter.v:3$4.division.bit[3].after [16] $div$choose/lap_counter.v:3$4.division.bit[2].before [16:1] }
+(define-fun |top#42| ((state |top_s|)) (_ BitVec 17) (bvsub (concat ((_ extract 15 0) (|top#41| state)) ((_ extract 2 2) (|top#1| state))) (concat #b000000000 (|top#0| state)))) ; $techmap$div$choose/lap_counter.v:3$4.division.$sub$map.v:154$85_Y
+(define-fun |top#43| ((state |top_s|)) Bool (bvult (concat ((_ extract 15 0) (|top#41| state)) ((_ extract 2 2) (|top#1| state))) (concat #b000000000 (|top#0| state)))) ; $div$choose/lap_counter.v:3$4.division.bit[2].too_small
+(define-fun |top#44| ((state |top_s|)) (_ BitVec 17) (ite (|top#43| state) (concat ((_ extract 15 0) (|top#41| state)) ((_ extract 2 2) (|top#1| state))) (|top#42| state))) ; { $div$choose/lap_counter.v:3$4.division.bit[2].after [16] $div$choose/lap_counter.v:3$4.division.bit[1].before [16:1] }
+(define-fun |top#45| ((state |top_s|)) (_ BitVec 17) (bvsub (concat ((_ extract 15 0) (|top#44| state)) ((_ extract 1 1) (|top#1| state))) (concat #b000000000 (|top#0| state)))) ; $techmap$div$choose/lap_counter.v:3$4.division.$sub$map.v:154$89_Y
+(define-fun |top#46| ((state |top_s|)) Bool (bvult (concat ((_ extract 15 0) (|top#44| state)) ((_ extract 1 1) (|top#1| state))) (concat #b000000000 (|top#0| state)))) ; $div$choose/lap_counter.v:3$4.division.bit[1].too_small
+(define-fun |top#47| ((state |top_s|)) (_ BitVec 17) (ite (|top#46| state) (concat ((_ extract 15 0) (|top#44| state)) ((_ extract 1 1) (|top#1| state))) (|top#45| state))) ; { $div$choose/lap_counter.v:3$4.division.bit[1].after [16] $div$choose/lap_counter.v:3$4.division.bit[0].before [16:1] }
+(define-fun |top#48| ((state |top_s|)) Bool (bvult (concat ((_ extract 15 0) (|top#47| state)) ((_ extract 0 0) (|top#1| state))) (concat #b000000000 (|top#0| state)))) ; $div$choose/lap_counter.v:3$4.division.bit[0].too_small
+(define-fun |top#49| ((state |top_s|)) (_ BitVec 1) (bvnot (ite (|top#48| state) #b1 #b0))) ; \laps [0]
+(define-fun |top#50| ((state |top_s|)) (_ BitVec 1) (bvnot (ite (|top#46| state) #b1 #b0))) ; \laps [1]
+(define-fun |top#51| ((state |top_s|)) (_ BitVec 1) (bvnot (ite (|top#43| state) #b1 #b0))) ; \laps [2]
+(define-fun |top#52| ((state |top_s|)) (_ BitVec 1) (bvnot (ite (|top#40| state) #b1 #b0))) ; \laps [3]
+(define-fun |top#53| ((state |top_s|)) (_ BitVec 1) (bvnot (ite (|top#37| state) #b1 #b0))) ; \laps [4]
+(define-fun |top#54| ((state |top_s|)) (_ BitVec 1) (bvnot (ite (|top#34| state) #b1 #b0))) ; \laps [5]
+(define-fun |top#55| ((state |top_s|)) (_ BitVec 1) (bvnot (ite (|top#31| state) #b1 #b0))) ; \laps [6]
+(define-fun |top#56| ((state |top_s|)) (_ BitVec 1) (bvnot (ite (|top#28| state) #b1 #b0))) ; \laps [7]
+(define-fun |top#57| ((state |top_s|)) (_ BitVec 1) (bvnot (ite (|top#25| state) #b1 #b0))) ; \laps [8]
+(define-fun |top#58| ((state |top_s|)) (_ BitVec 1) (bvnot (ite (|top#22| state) #b1 #b0))) ; \laps [9]
+(define-fun |top#59| ((state |top_s|)) (_ BitVec 1) (bvnot (ite (|top#19| state) #b1 #b0))) ; \laps [10]
+(define-fun |top#60| ((state |top_s|)) (_ BitVec 1) (bvnot (ite (|top#16| state) #b1 #b0))) ; \laps [11]
+(define-fun |top#61| ((state |top_s|)) (_ BitVec 1) (bvnot (ite (|top#13| state) #b1 #b0))) ; \laps [12]
+(define-fun |top#62| ((state |top_s|)) (_ BitVec 1) (bvnot (ite (|top#10| state) #b1 #b0))) ; \laps [13]
+(define-fun |top#63| ((state |top_s|)) (_ BitVec 1) (bvnot (ite (|top#7| state) #b1 #b0))) ; \laps [14]
+(define-fun |top#64| ((state |top_s|)) (_ BitVec 1) (bvnot (ite (|top#4| state) #b1 #b0))) ; \laps [15]
+(define-fun |top#65| ((state |top_s|)) Bool (= (concat (|top#64| state) (concat (|top#63| state) (concat (|top#62| state) (concat (|top#61| state) (concat (|top#60| state) (concat (|top#59| state) (concat (|top#58| state) (concat (|top#57| state) (concat (|top#56| state) (concat (|top#55| state) (concat (|top#54| state) (concat (|top#53| state) (concat (|top#52| state) (concat (|top#51| state) (concat (|top#50| state) (|top#49| state)))))))))))))))) #b0000000010001001)) ; $0$formal$choose/lap_counter.v:6$2_CHECK[0:0]$9
+(define-fun |top_u 1| ((state |top_s|)) Bool (or (|top#65| state) (not true))) ; $assume$choose/lap_counter.v:6$17
+(define-fun |top#66| ((state |top_s|)) (_ BitVec 17) (bvsub (concat ((_ extract 15 0) (|top#47| state)) ((_ extract 0 0) (|top#1| state))) (concat #b000000000 (|top#0| state)))) ; $techmap$div$choose/lap_counter.v:3$4.division.$sub$map.v:154$93_Y
+(define-fun |top#67| ((state |top_s|)) (_ BitVec 17) (ite (|top#48| state) (concat ((_ extract 15 0) (|top#47| state)) ((_ extract 0 0) (|top#1| state))) (|top#66| state))) ; { $mod$choose/lap_counter.v:4$5.division.bit[0].after [16] \left }
+(define-fun |top#68| ((state |top_s|)) Bool (= ((_ extract 15 0) (|top#67| state)) #b0000000000111101)) ; $0$formal$choose/lap_counter.v:7$3_CHECK[0:0]$11
+(define-fun |top_u 2| ((state |top_s|)) Bool (or (|top#68| state) (not true))) ; $assume$choose/lap_counter.v:7$18
+(define-fun |top_a| ((state |top_s|)) Bool true)
+(define-fun |top_u| ((state |top_s|)) Bool (and
+  (|top_u 0| state)
+  (|top_u 1| state)
+  (|top_u 2| state)
+))
+(define-fun |top_i| ((state |top_s|)) Bool true)
+(define-fun |top_h| ((state |top_s|)) Bool true)
+(define-fun |top_t| ((state |top_s|) (next_state |top_s|)) Bool true) ; end of module top
+(declare-fun s () |top_s|)
+(assert (|top_u| s))
+(check-sat)
