@@ -3,7 +3,10 @@
 use clap::{Parser, ValueEnum};
 use compare::narrow::{self, Extent};
 use compare::runs::{self, Counts, Difference};
-use compare::{batches, btor2, fixed, gatherings, mends, models, need, program, refused, wide, Batches, Converts, Library, Mender, Plain, Subject};
+use compare::{
+    batches, btor2, fixed, gatherings, mends, models, need, program, refused, wide, Batches, Converts,
+    Library, Mender, Plain, Subject,
+};
 use model::{Kind, Verdict};
 use std::path::{Path, PathBuf};
 use std::process::ExitCode;

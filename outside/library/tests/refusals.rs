@@ -108,7 +108,8 @@ fn limits() {
     accepted("width 64", &one(64, u64::MAX));
     refused("width 65", &one(65, u64::MAX), 8, 0);
     refused("width 0", &one(0, 0), 8, 0);
-    let counted = |nodes: usize, roots: u16| Problem::new(vec![leaf(0, 1, 0, 1); nodes], (0..roots).collect());
+    let counted =
+        |nodes: usize, roots: u16| Problem::new(vec![leaf(0, 1, 0, 1); nodes], (0..roots).collect());
     accepted("no nodes and no roots", &counted(0, 0));
     accepted("1024 nodes", &counted(1024, 0));
     refused("1025 nodes", &counted(1025, 0), 4, 0);

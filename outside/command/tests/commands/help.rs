@@ -2,8 +2,9 @@
 
 use crate::at::At;
 
-const COMMANDS: [&str; 13] = [
-    "build", "convert", "show", "check", "mend", "need", "tape", "run", "batch", "gather", "export", "model", "example",
+const COMMANDS: [&str; 14] = [
+    "build", "convert", "show", "check", "mend", "need", "tape", "run", "batch", "gather", "solve", "export",
+    "model", "example",
 ];
 
 #[test]
