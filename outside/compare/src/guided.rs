@@ -17,6 +17,8 @@ pub struct Counts {
     pub models: u64,
     pub spent: u64,
     pub closed: u64,
+    /// Models that linear equations gave.
+    pub led: u64,
     pub moves: u64,
     pub steps: u64,
     /// Walks that were tried for these moves.
@@ -40,6 +42,7 @@ pub fn compare(subject: &impl Subject, seed: u64, cases: u64) -> Result<Counts, 
         models: sum.models + one.models,
         spent: sum.spent + one.spent,
         closed: sum.closed + one.closed,
+        led: sum.led + one.led,
         moves: sum.moves + one.moves,
         steps: sum.steps + one.steps,
         tried: sum.tried + one.tried,
@@ -67,6 +70,7 @@ fn compare_one(
     counts.models += u64::from(verdict == Verdict::Model);
     counts.spent += u64::from(verdict == Verdict::Spent);
     counts.closed += u64::from(verdict == Verdict::Closed);
+    counts.led += u64::from(run.led && run.moves > 0);
     counts.moves += run.moves;
     counts.steps += run.steps;
     counts.tried += run.tried;
@@ -100,6 +104,7 @@ fn manner(rng: &mut Rng) -> Manner {
         [(); 4].map(|()| Choice { walks: rng.between(1, 8) as u32, noise: rng.one_of(&[0, 80, 500]) });
     manner.budget = rng.between(0, 40) as u16;
     manner.least = rng.chance(20);
+    manner.linear = rng.chance(50);
     manner
 }
 
@@ -131,7 +136,10 @@ mod tests {
     fn the_guide_says_what_the_model_and_plain_rust_say() {
         for counts in [compare(&Model, 1, 2000), compare(&Plain, 1, 20_000)] {
             let counts = counts.map_err(|d| d.what).unwrap();
-            assert!(counts.models > 0 && counts.spent > 0 && counts.closed > 0, "{counts:?}");
+            assert!(
+                [counts.models, counts.spent, counts.closed, counts.led].iter().all(|&count| count > 0),
+                "{counts:?}"
+            );
         }
     }
 }

@@ -309,8 +309,9 @@ fn guided_runs(subject: &impl Subject, seed: u64, cases: u64, out: &Path) -> Res
     let counts =
         compare::guided::compare(subject, seed, cases).map_err(|difference| kept(&difference, seed, out))?;
     println!(
-        "guided: {cases} runs (model {}, spent {}, closed {}), {} moves, {} steps, {} walks tried, no difference, {}",
+        "guided: {cases} runs (model {}, {} of them by linear equations, spent {}, closed {}), {} moves, {} steps, {} walks tried, no difference, {}",
         counts.models,
+        counts.led,
         counts.spent,
         counts.closed,
         counts.moves,
@@ -318,8 +319,8 @@ fn guided_runs(subject: &impl Subject, seed: u64, cases: u64, out: &Path) -> Res
         counts.tried,
         seconds(start)
     );
-    match [counts.models, counts.spent, counts.closed].contains(&0) {
-        true => Err("a verdict was never reached".into()),
+    match [counts.models, counts.led, counts.spent, counts.closed].contains(&0) {
+        true => Err("a verdict was never reached, or no model by equations".into()),
         false => Ok(()),
     }
 }

@@ -12,11 +12,13 @@
 //! | `walk`   | one walk from a root to a variable, and its words                               |
 //! | `search` | a run: of some walks the best is made, again and again                          |
 //! | `solve`  | runs one after the other, on several threads                                    |
+//! | `linear` | goals as linear equations over bits, solved by elimination                     |
 //! | `chance` | numbers from a seed                                                             |
 
 pub mod advice;
 pub mod chance;
 pub mod goals;
+pub mod linear;
 pub mod nodes;
 pub mod search;
 pub mod solve;

@@ -2,6 +2,7 @@
 
 use crate::advice::Shares;
 use crate::chance::Chance;
+use crate::linear;
 use crate::nodes::Ready;
 use crate::state::State;
 use crate::walk::{Drawing, Walk};
@@ -18,6 +19,8 @@ pub struct Manner {
     pub budget: u16,
     /// Start from the least values, not from any.
     pub least: bool,
+    /// First take the goals for linear equations.
+    pub linear: bool,
 }
 
 /// How a move is chosen.
@@ -47,6 +50,7 @@ impl Manner {
         stress: 600,
         budget: 2000,
         least: false,
+        linear: true,
     };
 }
 
@@ -63,16 +67,20 @@ pub struct Run {
     pub tried: u64,
     /// The fewest roots that were not 1.
     pub fewest: usize,
+    /// Whether a model was known from linear equations, and the moves lead there.
+    pub led: bool,
 }
 
 /// Run number `number` under a seed, which `stop` can end early.
 pub fn run(ready: &Ready, manner: &Manner, seed: u64, number: u64, stop: &dyn Fn() -> bool) -> Run {
     let chance = &mut Chance::of_run(seed, number);
-    let Choice { walks, noise } = manner.choices[(number % 4) as usize];
+    let choice = manner.choices[(number % 4) as usize];
     let start = start(ready, chance, manner.least);
     let mut state = State::new(ready, &start);
     let mut run = Run { start, fewest: usize::MAX, ..Run::default() };
-    let (mut walk, mut best, mut known) = (Walk::default(), Walk::default(), Vec::new());
+    let model = if manner.linear { linear::model(&mut state, chance) } else { None };
+    run.led = model.is_some();
+    let mut walks = Walks::default();
     loop {
         let open: Vec<u16> =
             ready.roots.iter().copied().filter(|&root| state.values[usize::from(root)] != 1).collect();
@@ -81,70 +89,87 @@ pub fn run(ready: &Ready, manner: &Manner, seed: u64, number: u64, stop: &dyn Fn
         if run.model || run.moves == u64::from(manner.budget) || run.moves % 16 == 15 && stop() {
             break;
         }
-        let any = chance.happens(noise);
-        let (cost, tried) = choose(
-            &mut state,
-            chance,
-            &manner.drawing,
-            &open,
-            (&mut walk, &mut best, &mut known),
-            if any { 0 } else { walks },
-        );
-        run.tried += tried;
-        if cost >= state.cost && chance.happens(manner.stress) {
-            state.stress();
+        match &model {
+            Some(model) => walks.best.lead(ready, &state.values, model, (0, open[0])),
+            None => run.tried += walks.choose(&mut state, chance, (manner, choice), &open),
         }
-        run.tape.push(best.root);
-        run.tape.extend(&best.words);
-        run.moves += 1;
-        run.steps += best.words.len() as u64 / 2;
-        if let Some((variable, value)) = best.end {
-            state.set(variable, value);
-        }
+        run.make(&walks.best, &mut state);
     }
     state.evaluate();
     run.values = state.values;
     run
 }
 
-/// A change of a variable that was tried for this move, and the cost after it.
-type Known = ((u16, u64), u64);
+impl Run {
+    /// Makes a move, and writes its words down.
+    fn make(&mut self, walk: &Walk, state: &mut State) {
+        self.tape.push(walk.root);
+        self.tape.extend(&walk.words);
+        self.moves += 1;
+        self.steps += walk.words.len() as u64 / 2;
+        if let Some((variable, value)) = walk.end {
+            state.set(variable, value);
+        }
+    }
+}
 
-/// Leaves the best of some walks in the second of two; where none are asked for, the first that brings a change. Gives
-/// the cost after it, and how many were tried.
-fn choose(
-    state: &mut State,
-    chance: &mut Chance,
-    drawing: &Drawing,
-    open: &[u16],
-    (walk, best, known): (&mut Walk, &mut Walk, &mut Vec<Known>),
-    walks: u32,
-) -> (u64, u64) {
-    let (mut least, mut tried) = (u64::MAX, 0);
-    known.clear();
-    loop {
-        let chosen = chance.below(open.len() as u32);
-        walk.draw(state.ready, &state.values, chance, drawing, (chosen.into(), open[chosen as usize]));
-        let cost = match walk.end {
-            None => BLOCKED,
-            Some((variable, value)) if state.values[usize::from(variable)] == value => IDLE,
-            Some(change) => match known.iter().find(|(known, _)| *known == change) {
-                Some(&(_, cost)) => cost,
-                None => {
-                    let cost = state.tried(change.0, change.1);
-                    known.push((change, cost));
-                    cost
-                }
-            },
+/// The walks of a move.
+#[derive(Default)]
+struct Walks {
+    walk: Walk,
+    /// The best so far.
+    best: Walk,
+    /// Changes of a variable that were tried for this move, and the cost after each.
+    known: Vec<((u16, u64), u64)>,
+}
+
+impl Walks {
+    /// Leaves the best of some walks, or by noise the first that brings a change; and makes what is unmet count more where it
+    /// brings nothing. Gives how many were tried.
+    fn choose(
+        &mut self,
+        state: &mut State,
+        chance: &mut Chance,
+        (manner, choice): (&Manner, Choice),
+        open: &[u16],
+    ) -> u64 {
+        let walks = if chance.happens(choice.noise) { 0 } else { choice.walks };
+        let (mut least, mut tried) = (u64::MAX, 0);
+        self.known.clear();
+        loop {
+            let chosen = chance.below(open.len() as u32);
+            let root = (chosen.into(), open[chosen as usize]);
+            self.walk.draw(state.ready, &state.values, chance, &manner.drawing, root);
+            let cost = self.cost(state);
+            if tried == 0 || cost < least {
+                least = cost;
+                std::mem::swap(&mut self.walk, &mut self.best);
+            }
+            tried += 1;
+            if tried >= u64::from(walks) && (walks > 0 || least < IDLE || tried == ENOUGH) || least == 0 {
+                break;
+            }
+        }
+        if least >= state.cost && chance.happens(manner.stress) {
+            state.stress();
+        }
+        tried
+    }
+
+    /// The cost after the walk.
+    fn cost(&mut self, state: &mut State) -> u64 {
+        let Some(change) = self.walk.end else {
+            return BLOCKED;
         };
-        if tried == 0 || cost < least {
-            least = cost;
-            std::mem::swap(walk, best);
+        if state.values[usize::from(change.0)] == change.1 {
+            return IDLE;
         }
-        tried += 1;
-        if tried >= u64::from(walks) && (walks > 0 || least < IDLE || tried == ENOUGH) || least == 0 {
-            return (least, tried);
+        if let Some(&(_, cost)) = self.known.iter().find(|(known, _)| *known == change) {
+            return cost;
         }
+        let cost = state.tried(change.0, change.1);
+        self.known.push((change, cost));
+        cost
     }
 }
 

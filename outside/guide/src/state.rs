@@ -46,6 +46,11 @@ impl<'a> State<'a> {
         }
     }
 
+    /// Whether every root is 1.
+    pub fn is_model(&self) -> bool {
+        self.ready.roots.iter().all(|&root| self.values[usize::from(root)] == 1)
+    }
+
     /// All goals anew.
     fn count(&mut self) {
         for (at, &goal) in self.ready.goals.iter().enumerate() {
@@ -78,9 +83,15 @@ impl<'a> State<'a> {
 
     /// The cost with a variable at a value; everything is as before afterwards.
     pub fn tried(&mut self, variable: u16, x: u64) -> u64 {
+        self.with(variable, x, |state| state.cost)
+    }
+
+    /// What is seen with a variable at a value; everything is as before afterwards.
+    #[inline]
+    pub fn with<Seen>(&mut self, variable: u16, x: u64, look: impl FnOnce(&State) -> Seen) -> Seen {
         let before = self.cost;
         self.set(variable, x);
-        let after = self.cost;
+        let seen = look(self);
         for &(id, value) in &self.nodes_before {
             self.values[usize::from(id)] = value;
         }
@@ -88,7 +99,7 @@ impl<'a> State<'a> {
             self.distances[usize::from(at)] = distance;
         }
         self.cost = before;
-        after
+        seen
     }
 
     /// Gives a variable a value, and the nodes above it theirs.

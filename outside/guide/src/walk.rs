@@ -59,6 +59,27 @@ impl Walk {
         }
     }
 
+    /// Walks from a root towards a model, as demand 3 says: each step goes to an operand that differs from the model, and
+    /// proposes its value there.
+    pub fn lead(&mut self, ready: &Ready, values: &[u64], model: &[u64], root: (u64, u16)) {
+        self.words.clear();
+        self.root = root.0;
+        let mut id = root.1;
+        while ready.nodes[usize::from(id)].kind != VARIABLE {
+            let (spot, operands) =
+                (spot(ready, values, usize::from(id)), ready.nodes[usize::from(id)].operands);
+            let candidates = candidates(&spot, model[usize::from(id)]);
+            let differs = |&at: &u32| {
+                let position = nth(candidates, at);
+                spot.now[position] != model[usize::from(operands[position])]
+            };
+            let chosen = (0..candidates.count_ones()).find(differs).expect("some candidate differs");
+            id = operands[nth(candidates, chosen)];
+            self.words.extend([2 * u64::from(chosen) + 1, model[usize::from(id)]]);
+        }
+        self.end = Some((id, model[usize::from(id)]));
+    }
+
     fn step(
         &mut self,
         ready: &Ready,
