@@ -16,7 +16,7 @@ pub struct Asked {
     /// Ours is run from so many seeds
     #[arg(long, default_value_t = 20)]
     seeds: usize,
-    /// Another solver is run so often
+    /// Another solver is run so often, in turns with ours
     #[arg(long, default_value_t = 5)]
     times: usize,
     /// The most that a process may take
@@ -76,6 +76,7 @@ fn answered(ended: &Ended) -> bool {
 }
 
 /// The times of a solver on a problem; none where it did not answer in time.
+#[derive(Default)]
 struct Times {
     each: Vec<Option<Duration>>,
 }
@@ -86,6 +87,11 @@ impl Times {
         let mut sorted: Vec<Duration> = self.each.iter().map(|time| time.unwrap_or(Duration::MAX)).collect();
         sorted.sort();
         sorted.get(sorted.len() / 2).copied().filter(|&time| time < Duration::MAX)
+    }
+
+    /// Whether more than so many runs have failed: the others need not be waited for.
+    fn has_failed(&self, most: usize) -> bool {
+        self.each.len() - self.answered() > most
     }
 
     fn answered(&self) -> usize {
@@ -123,8 +129,7 @@ pub fn table(asked: &Asked) -> Result<(), String> {
     println!("|---|---|{}", "---|".repeat(names.len() + 1));
     let mut rows = Vec::new();
     for (half, name) in problems(asked)? {
-        let times = solvers.iter().map(|solver| measured(asked, solver, &half, &name));
-        let row = Row { times: times.collect::<Result<_, _>>()?, half, name };
+        let row = Row { times: measured(asked, solvers, &half, &name)?, half, name };
         let each: Vec<String> = row.times.iter().map(Times::shown).collect();
         let soonest = row.soonest().map_or("-", |at| names[at]);
         let (found, of) = (row.times[0].answered(), row.times[0].each.len());
@@ -158,26 +163,34 @@ fn problems(asked: &Asked) -> Result<Vec<(String, String)>, String> {
     Ok(found)
 }
 
-/// A solver's times on a problem. What is clear is not run on: where more than half have failed, or where no model is
-/// there to be found.
-fn measured(asked: &Asked, solver: &Solver, half: &str, name: &str) -> Result<Times, String> {
-    let ours = solver.name == "walumpeh";
-    let made = Made::new(solver, &asked.folder.join(half).join(name))?;
-    let count = match (ours, name.starts_with("unsat")) {
-        (true, true) => 1,
-        (true, false) => asked.seeds,
-        _ => asked.times,
-    };
-    let mut each = Vec::new();
-    for seed in 1..=count {
-        let ended = run(asked, solver, &made.path, seed)?;
-        each.push((solver.done)(&ended).then_some(ended.time));
-        let failed = each.iter().filter(|time| time.is_none()).count();
-        if !ours && failed > 0 || failed * 2 > count {
-            break;
+/// Every solver's times on a problem. They take turns, so that whatever else the machine does falls on all alike.
+fn measured(asked: &Asked, solvers: &[Solver], half: &str, name: &str) -> Result<Vec<Times>, String> {
+    let stem = asked.folder.join(half).join(name);
+    let made: Vec<Made> = solvers.iter().map(|solver| Made::new(solver, &stem)).collect::<Result<_, _>>()?;
+    let mut times: Vec<Times> = solvers.iter().map(|_| Times::default()).collect();
+    for round in 0..asked.times {
+        for ((solver, made), times) in solvers.iter().zip(&made).zip(&mut times) {
+            let count = count(asked, solver, name);
+            // Another seed may do better; another run of the same will not.
+            let most = if solver.name == "walumpeh" { count / 2 } else { 0 };
+            for seed in count * round / asked.times + 1..=count * (round + 1) / asked.times {
+                if !times.has_failed(most) {
+                    let ended = run(asked, solver, &made.path, seed)?;
+                    times.each.push((solver.done)(&ended).then_some(ended.time));
+                }
+            }
         }
     }
-    Ok(Times { each })
+    Ok(times)
+}
+
+/// How often a solver is run on a problem: ours from every seed, or once where there is no model to be found.
+fn count(asked: &Asked, solver: &Solver, name: &str) -> usize {
+    match (solver.name, name.starts_with("unsat")) {
+        ("walumpeh", true) => 1,
+        ("walumpeh", false) => asked.seeds,
+        _ => asked.times,
+    }
 }
 
 fn run(asked: &Asked, solver: &Solver, file: &Path, seed: usize) -> Result<Ended, String> {
