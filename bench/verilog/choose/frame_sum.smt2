@@ -40,25 +40,25 @@
 (define-fun |top#24| ((state |top_s|)) Bool (= (|top#7| state) (|top#23| state))) ; $0$formal$choose/frame_sum.v:7$3_CHECK[0:0]$25
 (define-fun |top_u 4| ((state |top_s|)) Bool (or (|top#24| state) (not true))) ; $assume$choose/frame_sum.v:7$51
 (define-fun |top#25| ((state |top_s|)) (_ BitVec 4) (bvxor ((_ extract 3 0) (|top#7| state)) ((_ extract 7 4) (|top#7| state)))) ; $reduce_xor$choose/frame_sum.v:4$13.genblk1.folded
-(define-fun |top#26| ((state |top_s|)) (_ BitVec 2) (bvxor ((_ extract 1 0) (|top#25| state)) ((_ extract 3 2) (|top#25| state)))) ; $reduce_xor$choose/frame_sum.v:4$13.genblk1.rest.genblk1.folded
+(define-fun |top#26| ((state |top_s|)) (_ BitVec 2) (bvxor ((_ extract 1 0) (|top#25| state)) ((_ extract 3 2) (|top#25| state)))) ; $techmap$reduce_xor$choose/frame_sum.v:4$13.$reduce_xor$../../examples/btor2/list.v:101$72.genblk1.folded
 (define-fun |top#27| ((state |top_s|)) (_ BitVec 1) (bvxor ((_ extract 0 0) (|top#26| state)) ((_ extract 1 1) (|top#26| state)))) ; \parities [1]
 (define-fun |top#28| ((state |top_s|)) (_ BitVec 4) (bvxor ((_ extract 3 0) (|top#3| state)) ((_ extract 7 4) (|top#3| state)))) ; $reduce_xor$choose/frame_sum.v:4$14.genblk1.folded
-(define-fun |top#29| ((state |top_s|)) (_ BitVec 2) (bvxor ((_ extract 1 0) (|top#28| state)) ((_ extract 3 2) (|top#28| state)))) ; $reduce_xor$choose/frame_sum.v:4$14.genblk1.rest.genblk1.folded
+(define-fun |top#29| ((state |top_s|)) (_ BitVec 2) (bvxor ((_ extract 1 0) (|top#28| state)) ((_ extract 3 2) (|top#28| state)))) ; $techmap$reduce_xor$choose/frame_sum.v:4$14.$reduce_xor$../../examples/btor2/list.v:101$72.genblk1.folded
 (define-fun |top#30| ((state |top_s|)) (_ BitVec 1) (bvxor ((_ extract 0 0) (|top#29| state)) ((_ extract 1 1) (|top#29| state)))) ; \parities [2]
 (define-fun |top#31| ((state |top_s|)) (_ BitVec 4) (bvxor ((_ extract 3 0) (|top#2| state)) ((_ extract 7 4) (|top#2| state)))) ; $reduce_xor$choose/frame_sum.v:4$15.genblk1.folded
-(define-fun |top#32| ((state |top_s|)) (_ BitVec 2) (bvxor ((_ extract 1 0) (|top#31| state)) ((_ extract 3 2) (|top#31| state)))) ; $reduce_xor$choose/frame_sum.v:4$15.genblk1.rest.genblk1.folded
+(define-fun |top#32| ((state |top_s|)) (_ BitVec 2) (bvxor ((_ extract 1 0) (|top#31| state)) ((_ extract 3 2) (|top#31| state)))) ; $techmap$reduce_xor$choose/frame_sum.v:4$15.$reduce_xor$../../examples/btor2/list.v:101$72.genblk1.folded
 (define-fun |top#33| ((state |top_s|)) (_ BitVec 1) (bvxor ((_ extract 0 0) (|top#32| state)) ((_ extract 1 1) (|top#32| state)))) ; \parities [3]
 (define-fun |top#34| ((state |top_s|)) (_ BitVec 4) (bvxor ((_ extract 3 0) (|top#1| state)) ((_ extract 7 4) (|top#1| state)))) ; $reduce_xor$choose/frame_sum.v:4$16.genblk1.folded
-(define-fun |top#35| ((state |top_s|)) (_ BitVec 2) (bvxor ((_ extract 1 0) (|top#34| state)) ((_ extract 3 2) (|top#34| state)))) ; $reduce_xor$choose/frame_sum.v:4$16.genblk1.rest.genblk1.folded
+(define-fun |top#35| ((state |top_s|)) (_ BitVec 2) (bvxor ((_ extract 1 0) (|top#34| state)) ((_ extract 3 2) (|top#34| state)))) ; $techmap$reduce_xor$choose/frame_sum.v:4$16.$reduce_xor$../../examples/btor2/list.v:101$72.genblk1.folded
 (define-fun |top#36| ((state |top_s|)) (_ BitVec 1) (bvxor ((_ extract 0 0) (|top#35| state)) ((_ extract 1 1) (|top#35| state)))) ; \parities [4]
 (define-fun |top#37| ((state |top_s|)) (_ BitVec 4) (bvxor ((_ extract 3 0) (|top#0| state)) ((_ extract 7 4) (|top#0| state)))) ; $reduce_xor$choose/frame_sum.v:4$17.genblk1.folded
-(define-fun |top#38| ((state |top_s|)) (_ BitVec 2) (bvxor ((_ extract 1 0) (|top#37| state)) ((_ extract 3 2) (|top#37| state)))) ; $reduce_xor$choose/frame_sum.v:4$17.genblk1.rest.genblk1.folded
+(define-fun |top#38| ((state |top_s|)) (_ BitVec 2) (bvxor ((_ extract 1 0) (|top#37| state)) ((_ extract 3 2) (|top#37| state)))) ; $techmap$reduce_xor$choose/frame_sum.v:4$17.$reduce_xor$../../examples/btor2/list.v:101$72.genblk1.folded
 (define-fun |top#39| ((state |top_s|)) (_ BitVec 1) (bvxor ((_ extract 0 0) (|top#38| state)) ((_ extract 1 1) (|top#38| state)))) ; \parities [5]
 (define-fun |top#40| ((state |top_s|)) (_ BitVec 4) (bvxor ((_ extract 3 0) (|top#4| state)) ((_ extract 7 4) (|top#4| state)))) ; $reduce_xor$choose/frame_sum.v:4$18.genblk1.folded
-(define-fun |top#41| ((state |top_s|)) (_ BitVec 2) (bvxor ((_ extract 1 0) (|top#40| state)) ((_ extract 3 2) (|top#40| state)))) ; $reduce_xor$choose/frame_sum.v:4$18.genblk1.rest.genblk1.folded
+(define-fun |top#41| ((state |top_s|)) (_ BitVec 2) (bvxor ((_ extract 1 0) (|top#40| state)) ((_ extract 3 2) (|top#40| state)))) ; $techmap$reduce_xor$choose/frame_sum.v:4$18.$reduce_xor$../../examples/btor2/list.v:101$72.genblk1.folded
 (define-fun |top#42| ((state |top_s|)) (_ BitVec 1) (bvxor ((_ extract 0 0) (|top#41| state)) ((_ extract 1 1) (|top#41| state)))) ; \parities [6]
 (define-fun |top#43| ((state |top_s|)) (_ BitVec 4) (bvxor ((_ extract 3 0) (|top#5| state)) ((_ extract 7 4) (|top#5| state)))) ; $reduce_xor$choose/frame_sum.v:4$19.genblk1.folded
-(define-fun |top#44| ((state |top_s|)) (_ BitVec 2) (bvxor ((_ extract 1 0) (|top#43| state)) ((_ extract 3 2) (|top#43| state)))) ; $reduce_xor$choose/frame_sum.v:4$19.genblk1.rest.genblk1.folded
+(define-fun |top#44| ((state |top_s|)) (_ BitVec 2) (bvxor ((_ extract 1 0) (|top#43| state)) ((_ extract 3 2) (|top#43| state)))) ; $techmap$reduce_xor$choose/frame_sum.v:4$19.$reduce_xor$../../examples/btor2/list.v:101$72.genblk1.folded
 (define-fun |top#45| ((state |top_s|)) (_ BitVec 1) (bvxor ((_ extract 0 0) (|top#44| state)) ((_ extract 1 1) (|top#44| state)))) ; \parities [7]
 (define-fun |top#46| ((state |top_s|)) Bool (= (|top#6| state) (concat (|top#45| state) (concat (|top#42| state) (concat (|top#39| state) (concat (|top#36| state) (concat (|top#33| state) (concat (|top#30| state) (concat (|top#27| state) #b1))))))))) ; $0$formal$choose/frame_sum.v:8$4_CHECK[0:0]$27
 (define-fun |top_u 5| ((state |top_s|)) Bool (or (|top#46| state) (not true))) ; $assume$choose/frame_sum.v:8$52

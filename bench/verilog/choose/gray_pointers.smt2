@@ -9,7 +9,7 @@
 (define-fun |top_n write| ((state |top_s|)) (_ BitVec 8) (|top#2| state))
 (define-fun |top#3| ((state |top_s|)) (_ BitVec 8) (bvsub (|top#2| state) (concat #b0000 (|top#0| state)))) ; \seen
 (define-fun |top#4| ((state |top_s|)) (_ BitVec 8) (bvsub (|top#3| state) (|top#1| state))) ; \level
-(define-fun |top#5| ((state |top_s|)) Bool (bvult #b10000000 (|top#4| state))) ; $le$choose/gray_pointers.v:11$31.is_less
+(define-fun |top#5| ((state |top_s|)) Bool (bvult #b10000000 (|top#4| state))) ; $le$choose/gray_pointers.v:11$31.less
 (define-fun |top#6| ((state |top_s|)) (_ BitVec 1) (bvnot (ite (|top#5| state) #b1 #b0))) ; $0$formal$choose/gray_pointers.v:10$2_CHECK[0:0]$19
 (define-fun |top_u 0| ((state |top_s|)) Bool (or (= ((_ extract 0 0) (|top#6| state)) #b1) (not true))) ; $assume$choose/gray_pointers.v:10$38
 (define-fun |top#7| ((state |top_s|)) (_ BitVec 7) (bvxor ((_ extract 6 0) (|top#3| state)) ((_ extract 7 1) (|top#3| state)))) ; \gray_write [6:0]
@@ -27,7 +27,7 @@
 (define-fun |top#16| ((state |top_s|)) Bool (= ((_ extract 5 2) (|top#7| state)) #b0010)) ; $0$formal$choose/gray_pointers.v:14$6_CHECK[0:0]$27
 (define-fun |top_u 4| ((state |top_s|)) Bool (or (|top#16| state) (not true))) ; $assume$choose/gray_pointers.v:14$42
 (define-fun |top#17| ((state |top_s|)) (_ BitVec 8) (bvsub (|top#2| state) (|top#1| state))) ; $sub$choose/gray_pointers.v:10$29_Y
-(define-fun |top#18| ((state |top_s|)) Bool (bvult #b10000000 (|top#17| state))) ; $le$choose/gray_pointers.v:10$30.is_less
+(define-fun |top#18| ((state |top_s|)) Bool (bvult #b10000000 (|top#17| state))) ; $le$choose/gray_pointers.v:10$30.less
 (define-fun |top#19| ((state |top_s|)) (_ BitVec 1) (bvnot (ite (|top#18| state) #b1 #b0))) ; $0$formal$choose/gray_pointers.v:9$1_CHECK[0:0]$17
 (define-fun |top_u 5| ((state |top_s|)) Bool (or (= ((_ extract 0 0) (|top#19| state)) #b1) (not true))) ; $assume$choose/gray_pointers.v:9$37
 (define-fun |top_a| ((state |top_s|)) Bool true)

@@ -3,8 +3,8 @@
 (define-fun |top_is| ((state |top_s|)) Bool (= ((_ extract 0 0) state) #b1))
 (define-fun |top#0| ((state |top_s|)) (_ BitVec 32) ((_ extract 32 1) state)) ; \x
 (define-fun |top_n x| ((state |top_s|)) (_ BitVec 32) (|top#0| state))
-(define-fun |top#1| ((state |top_s|)) (_ BitVec 19) (bvxor ((_ extract 31 13) (|top#0| state)) ((_ extract 18 0) (|top#0| state)))) ; { \a [31:17] \b [16:15] \a [14:13] }
-(define-fun |top#2| ((state |top_s|)) (_ BitVec 15) (bvxor (concat ((_ extract 1 0) (|top#1| state)) ((_ extract 12 0) (|top#0| state))) ((_ extract 18 4) (|top#1| state)))) ; \b [14:0]
+(define-fun |top#1| ((state |top_s|)) (_ BitVec 19) (bvxor ((_ extract 31 13) (|top#0| state)) ((_ extract 18 0) (|top#0| state)))) ; \a [31:13]
+(define-fun |top#2| ((state |top_s|)) (_ BitVec 15) (bvxor (concat ((_ extract 1 0) (|top#1| state)) ((_ extract 12 0) (|top#0| state))) ((_ extract 18 4) (|top#1| state)))) ; { \b [14:5] \c [4:0] }
 (define-fun |top#3| ((state |top_s|)) (_ BitVec 27) (bvxor (concat ((_ extract 18 2) (|top#1| state)) ((_ extract 14 5) (|top#2| state))) (concat ((_ extract 13 2) (|top#1| state)) (|top#2| state)))) ; \c [31:5]
 (define-fun |top#4| ((state |top_s|)) (_ BitVec 32) (bvmul (concat (|top#3| state) ((_ extract 4 0) (|top#2| state))) #b10011110001101110111100110110001)) ; \h
 (define-fun |top#5| ((state |top_s|)) Bool (= ((_ extract 31 16) (|top#4| state)) #b1011111011101111)) ; $0$formal$choose/hash_xorshift.v:7$1_CHECK[0:0]$11

@@ -11,7 +11,7 @@
 (define-fun |top#4| ((state |top_s|)) (_ BitVec 16) (bvand (|top#1| state) (|top#3| state))) ; \open
 (define-fun |top#5| ((state |top_s|)) Bool (distinct (|top#4| state) #b0000000000000000)) ; $0$formal$choose/priority_encoder.v:12$3_CHECK[0:0]$12
 (define-fun |top_u 0| ((state |top_s|)) Bool (or (|top#5| state) (not true))) ; $assume$choose/priority_encoder.v:12$44
-(define-fun |top#6| ((state |top_s|)) (_ BitVec 16) ((_ extract 15 0) (bvlshr (concat (|top#4| state) (|top#4| state)) (concat #b0000000000000000000000000000 (|top#2| state))))) ; \twice
+(define-fun |top#6| ((state |top_s|)) (_ BitVec 32) (bvlshr (concat (|top#4| state) (|top#4| state)) (concat #b0000000000000000000000000000 (|top#2| state)))) ; \twice
 (define-fun |top#7| ((state |top_s|)) (_ BitVec 2) (ite (= ((_ extract 14 14) (|top#6| state)) #b1) #b10 (concat ((_ extract 15 15) (|top#6| state)) ((_ extract 15 15) (|top#6| state))))) ; { $2\first[3:0] [3] $2\first[3:0] [0] }
 (define-fun |top#8| ((state |top_s|)) (_ BitVec 3) (ite (= ((_ extract 13 13) (|top#6| state)) #b1) #b101 (concat ((_ extract 1 1) (|top#7| state)) (|top#7| state)))) ; { $3\first[3:0] [3] $3\first[3:0] [1:0] }
 (define-fun |top#9| ((state |top_s|)) (_ BitVec 3) (ite (= ((_ extract 12 12) (|top#6| state)) #b1) #b100 (|top#8| state))) ; { $4\first[3:0] [3] $4\first[3:0] [1:0] }
@@ -32,9 +32,9 @@
 (define-fun |top_u 1| ((state |top_s|)) Bool (or (|top#23| state) (not true))) ; $assume$choose/priority_encoder.v:13$45
 (define-fun |top#24| ((state |top_s|)) Bool (bvult #b0110 (|top#21| state))) ; $0$formal$choose/priority_encoder.v:14$5_CHECK[0:0]$16
 (define-fun |top_u 2| ((state |top_s|)) Bool (or (|top#24| state) (not true))) ; $assume$choose/priority_encoder.v:14$46
-(define-fun |top#25| ((state |top_s|)) (_ BitVec 3) (bvadd (concat #b00 ((_ extract 0 0) (|top#4| state))) (concat #b00 ((_ extract 1 1) (|top#4| state))))) ; $add$choose/priority_encoder.v:12$23_Y
-(define-fun |top#26| ((state |top_s|)) (_ BitVec 4) (bvadd (concat #b0 (|top#25| state)) (concat #b000 ((_ extract 2 2) (|top#4| state))))) ; $add$choose/priority_encoder.v:12$24_Y [3:0]
-(define-fun |top#27| ((state |top_s|)) (_ BitVec 5) (bvadd (concat #b0 (|top#26| state)) (concat #b0000 ((_ extract 3 3) (|top#4| state))))) ; $add$choose/priority_encoder.v:12$25_Y
+(define-fun |top#25| ((state |top_s|)) (_ BitVec 5) (bvadd (concat #b0000 ((_ extract 0 0) (|top#4| state))) (concat #b0000 ((_ extract 1 1) (|top#4| state))))) ; $add$choose/priority_encoder.v:12$23_Y
+(define-fun |top#26| ((state |top_s|)) (_ BitVec 5) (bvadd (|top#25| state) (concat #b0000 ((_ extract 2 2) (|top#4| state))))) ; $add$choose/priority_encoder.v:12$24_Y
+(define-fun |top#27| ((state |top_s|)) (_ BitVec 5) (bvadd (|top#26| state) (concat #b0000 ((_ extract 3 3) (|top#4| state))))) ; $add$choose/priority_encoder.v:12$25_Y
 (define-fun |top#28| ((state |top_s|)) (_ BitVec 5) (bvadd (|top#27| state) (concat #b0000 ((_ extract 4 4) (|top#4| state))))) ; $add$choose/priority_encoder.v:12$26_Y
 (define-fun |top#29| ((state |top_s|)) (_ BitVec 5) (bvadd (|top#28| state) (concat #b0000 ((_ extract 5 5) (|top#4| state))))) ; $add$choose/priority_encoder.v:12$27_Y
 (define-fun |top#30| ((state |top_s|)) (_ BitVec 5) (bvadd (|top#29| state) (concat #b0000 ((_ extract 6 6) (|top#4| state))))) ; $add$choose/priority_encoder.v:12$28_Y

@@ -25,7 +25,7 @@
 (define-fun |top#15| ((state |top_s|)) Bool (= (|top#14| state) #b1011)) ; $0$formal$choose/register_decode.v:14$7_CHECK[0:0]$32
 (define-fun |top_u 4| ((state |top_s|)) Bool (or (|top#15| state) (not true))) ; $assume$choose/register_decode.v:14$54
 (define-fun |top#16| ((state |top_s|)) Bool (= ((_ extract 31 12) (|top#0| state)) #b01000000000000000001)) ; \timer
-(define-fun |top#17| ((state |top_s|)) Bool (bvult (|top#0| state) #b01000000000000000010000000000000)) ; $ge$choose/register_decode.v:4$10.is_less
+(define-fun |top#17| ((state |top_s|)) Bool (bvult (|top#0| state) #b01000000000000000010000000000000)) ; $ge$choose/register_decode.v:4$10.less
 (define-fun |top#18| ((state |top_s|)) (_ BitVec 1) (bvnot (ite (|top#17| state) #b1 #b0))) ; $ge$choose/register_decode.v:4$10_Y
 (define-fun |top#19| ((state |top_s|)) Bool (bvult (|top#0| state) #b01000000000000000010010000000000)) ; $logic_and$choose/register_decode.v:4$12.b
 (define-fun |top#20| ((state |top_s|)) (_ BitVec 1) (bvand (|top#18| state) (ite (|top#19| state) #b1 #b0))) ; \uart

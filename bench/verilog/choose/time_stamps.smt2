@@ -42,27 +42,27 @@
 (define-fun |top#27| ((state |top_s|)) (_ BitVec 1) (bvand (|top#25| state) (ite (|top#26| state) #b1 #b0))) ; $0$formal$choose/time_stamps.v:5$2_CHECK[0:0]$19
 (define-fun |top_u 3| ((state |top_s|)) Bool (or (= ((_ extract 0 0) (|top#27| state)) #b1) (not true))) ; $assume$choose/time_stamps.v:5$66
 (define-fun |top#28| ((state |top_s|)) (_ BitVec 16) (bvsub (|top#1| state) (|top#0| state))) ; \g0
-(define-fun |top#29| ((state |top_s|)) Bool (bvult (|top#28| state) #b0000000000110010)) ; $ge$choose/time_stamps.v:7$47.is_less
+(define-fun |top#29| ((state |top_s|)) Bool (bvult (|top#28| state) #b0000000000110010)) ; $ge$choose/time_stamps.v:7$47.less
 (define-fun |top#30| ((state |top_s|)) (_ BitVec 1) (bvnot (ite (|top#29| state) #b1 #b0))) ; $ge$choose/time_stamps.v:7$47_Y
-(define-fun |top#31| ((state |top_s|)) Bool (bvult (|top#10| state) #b0000000000110010)) ; $ge$choose/time_stamps.v:7$48.is_less
+(define-fun |top#31| ((state |top_s|)) Bool (bvult (|top#10| state) #b0000000000110010)) ; $ge$choose/time_stamps.v:7$48.less
 (define-fun |top#32| ((state |top_s|)) (_ BitVec 1) (bvnot (ite (|top#31| state) #b1 #b0))) ; $ge$choose/time_stamps.v:7$48_Y
 (define-fun |top#33| ((state |top_s|)) (_ BitVec 1) (bvand (|top#30| state) (|top#32| state))) ; $logic_and$choose/time_stamps.v:7$49_Y
-(define-fun |top#34| ((state |top_s|)) Bool (bvult (|top#9| state) #b0000000000110010)) ; $ge$choose/time_stamps.v:7$50.is_less
+(define-fun |top#34| ((state |top_s|)) Bool (bvult (|top#9| state) #b0000000000110010)) ; $ge$choose/time_stamps.v:7$50.less
 (define-fun |top#35| ((state |top_s|)) (_ BitVec 1) (bvnot (ite (|top#34| state) #b1 #b0))) ; $ge$choose/time_stamps.v:7$50_Y
 (define-fun |top#36| ((state |top_s|)) (_ BitVec 1) (bvand (|top#33| state) (|top#35| state))) ; $logic_and$choose/time_stamps.v:7$51_Y
-(define-fun |top#37| ((state |top_s|)) Bool (bvult (|top#12| state) #b0000000000110010)) ; $ge$choose/time_stamps.v:7$52.is_less
+(define-fun |top#37| ((state |top_s|)) Bool (bvult (|top#12| state) #b0000000000110010)) ; $ge$choose/time_stamps.v:7$52.less
 (define-fun |top#38| ((state |top_s|)) (_ BitVec 1) (bvnot (ite (|top#37| state) #b1 #b0))) ; $ge$choose/time_stamps.v:7$52_Y
 (define-fun |top#39| ((state |top_s|)) (_ BitVec 1) (bvand (|top#36| state) (|top#38| state))) ; $0$formal$choose/time_stamps.v:6$3_CHECK[0:0]$21
 (define-fun |top_u 4| ((state |top_s|)) Bool (or (= ((_ extract 0 0) (|top#39| state)) #b1) (not true))) ; $assume$choose/time_stamps.v:6$67
 (define-fun |top#40| ((state |top_s|)) (_ BitVec 16) (bvsub (|top#5| state) (|top#4| state))) ; \g4
-(define-fun |top#41| ((state |top_s|)) Bool (bvult #b0000001110000100 (|top#40| state))) ; $le$choose/time_stamps.v:8$54.is_less
+(define-fun |top#41| ((state |top_s|)) Bool (bvult #b0000001110000100 (|top#40| state))) ; $le$choose/time_stamps.v:8$54.less
 (define-fun |top#42| ((state |top_s|)) (_ BitVec 1) (bvnot (ite (|top#41| state) #b1 #b0))) ; $le$choose/time_stamps.v:8$54_Y
 (define-fun |top#43| ((state |top_s|)) (_ BitVec 16) (bvsub (|top#6| state) (|top#5| state))) ; \g5
-(define-fun |top#44| ((state |top_s|)) Bool (bvult #b0000001110000100 (|top#43| state))) ; $le$choose/time_stamps.v:8$55.is_less
+(define-fun |top#44| ((state |top_s|)) Bool (bvult #b0000001110000100 (|top#43| state))) ; $le$choose/time_stamps.v:8$55.less
 (define-fun |top#45| ((state |top_s|)) (_ BitVec 1) (bvnot (ite (|top#44| state) #b1 #b0))) ; $le$choose/time_stamps.v:8$55_Y
 (define-fun |top#46| ((state |top_s|)) (_ BitVec 1) (bvand (|top#42| state) (|top#45| state))) ; $logic_and$choose/time_stamps.v:8$56_Y
 (define-fun |top#47| ((state |top_s|)) (_ BitVec 16) (bvsub (|top#7| state) (|top#6| state))) ; \g6
-(define-fun |top#48| ((state |top_s|)) Bool (bvult #b0000001110000100 (|top#47| state))) ; $le$choose/time_stamps.v:8$57.is_less
+(define-fun |top#48| ((state |top_s|)) Bool (bvult #b0000001110000100 (|top#47| state))) ; $le$choose/time_stamps.v:8$57.less
 (define-fun |top#49| ((state |top_s|)) (_ BitVec 1) (bvnot (ite (|top#48| state) #b1 #b0))) ; $le$choose/time_stamps.v:8$57_Y
 (define-fun |top#50| ((state |top_s|)) (_ BitVec 1) (bvand (|top#46| state) (|top#49| state))) ; $0$formal$choose/time_stamps.v:7$4_CHECK[0:0]$23
 (define-fun |top_u 5| ((state |top_s|)) Bool (or (= ((_ extract 0 0) (|top#50| state)) #b1) (not true))) ; $assume$choose/time_stamps.v:7$68

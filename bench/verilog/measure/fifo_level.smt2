@@ -48,7 +48,7 @@
 (define-fun |top#30| ((state |top_s|)) (_ BitVec 8) (bvand (|top#2| state) (|top#1| state))) ; $and$measure/fifo_level.v:16$102_Y
 (define-fun |top#31| ((state |top_s|)) Bool (= (|top#30| state) #b10000010)) ; $0$formal$measure/fifo_level.v:15$22_CHECK[0:0]$64
 (define-fun |top_u 11| ((state |top_s|)) Bool (or (|top#31| state) (not true))) ; $assume$measure/fifo_level.v:15$124
-(define-fun |top#32| ((state |top_s|)) Bool (bvult #b10000 (|top#0| state))) ; $le$measure/fifo_level.v:7$66.is_less
+(define-fun |top#32| ((state |top_s|)) Bool (bvult #b10000 (|top#0| state))) ; $le$measure/fifo_level.v:7$66.less
 (define-fun |top#33| ((state |top_s|)) (_ BitVec 1) (bvnot (ite (|top#32| state) #b1 #b0))) ; $0$formal$measure/fifo_level.v:6$2_CHECK[0:0]$24
 (define-fun |top_u 12| ((state |top_s|)) Bool (or (= ((_ extract 0 0) (|top#33| state)) #b1) (not true))) ; $assume$measure/fifo_level.v:6$104
 (define-fun |top#34| ((state |top_s|)) (_ BitVec 1) (bvnot ((_ extract 4 4) (|top#0| state)))) ; $0$formal$measure/fifo_level.v:9$3_CHECK[0:0]$26

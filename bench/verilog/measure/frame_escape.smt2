@@ -40,38 +40,38 @@
 (define-fun |top#26| ((state |top_s|)) (_ BitVec 1) (bvand (ite (|top#24| state) #b1 #b0) (ite (|top#25| state) #b1 #b0))) ; $0$formal$measure/frame_escape.v:10$18_CHECK[0:0]$55
 (define-fun |top_u 7| ((state |top_s|)) Bool (or (= ((_ extract 0 0) (|top#26| state)) #b1) (not true))) ; $assume$measure/frame_escape.v:10$130
 (define-fun |top#27| ((state |top_s|)) (_ BitVec 4) (bvxor ((_ extract 3 0) (|top#0| state)) ((_ extract 7 4) (|top#0| state)))) ; $reduce_xor$measure/frame_escape.v:12$69.genblk1.folded
-(define-fun |top#28| ((state |top_s|)) (_ BitVec 2) (bvxor ((_ extract 1 0) (|top#27| state)) ((_ extract 3 2) (|top#27| state)))) ; $reduce_xor$measure/frame_escape.v:12$69.genblk1.rest.genblk1.folded
-(define-fun |top#29| ((state |top_s|)) (_ BitVec 1) (bvxor ((_ extract 0 0) (|top#28| state)) ((_ extract 1 1) (|top#28| state)))) ; $reduce_xor$measure/frame_escape.v:12$69.genblk1.rest.genblk1.rest.genblk1.folded
+(define-fun |top#28| ((state |top_s|)) (_ BitVec 2) (bvxor ((_ extract 1 0) (|top#27| state)) ((_ extract 3 2) (|top#27| state)))) ; $techmap$reduce_xor$measure/frame_escape.v:12$69.$reduce_xor$../../examples/btor2/list.v:101$153.genblk1.folded
+(define-fun |top#29| ((state |top_s|)) (_ BitVec 1) (bvxor ((_ extract 0 0) (|top#28| state)) ((_ extract 1 1) (|top#28| state)))) ; $reduce_xor$measure/frame_escape.v:12$69_Y
 (define-fun |top#30| ((state |top_s|)) (_ BitVec 1) (bvnot (|top#29| state))) ; $0$formal$measure/frame_escape.v:12$5_CHECK[0:0]$29
 (define-fun |top_u 8| ((state |top_s|)) Bool (or (= ((_ extract 0 0) (|top#30| state)) #b1) (not true))) ; $assume$measure/frame_escape.v:12$117
 (define-fun |top#31| ((state |top_s|)) (_ BitVec 4) (bvxor ((_ extract 11 8) (|top#0| state)) ((_ extract 15 12) (|top#0| state)))) ; $reduce_xor$measure/frame_escape.v:12$75.genblk1.folded
-(define-fun |top#32| ((state |top_s|)) (_ BitVec 2) (bvxor ((_ extract 1 0) (|top#31| state)) ((_ extract 3 2) (|top#31| state)))) ; $reduce_xor$measure/frame_escape.v:12$75.genblk1.rest.genblk1.folded
-(define-fun |top#33| ((state |top_s|)) (_ BitVec 1) (bvxor ((_ extract 0 0) (|top#32| state)) ((_ extract 1 1) (|top#32| state)))) ; $reduce_xor$measure/frame_escape.v:12$75.genblk1.rest.genblk1.rest.genblk1.folded
+(define-fun |top#32| ((state |top_s|)) (_ BitVec 2) (bvxor ((_ extract 1 0) (|top#31| state)) ((_ extract 3 2) (|top#31| state)))) ; $techmap$reduce_xor$measure/frame_escape.v:12$75.$reduce_xor$../../examples/btor2/list.v:101$153.genblk1.folded
+(define-fun |top#33| ((state |top_s|)) (_ BitVec 1) (bvxor ((_ extract 0 0) (|top#32| state)) ((_ extract 1 1) (|top#32| state)))) ; $reduce_xor$measure/frame_escape.v:12$75_Y
 (define-fun |top#34| ((state |top_s|)) (_ BitVec 1) (bvnot (|top#33| state))) ; $0$formal$measure/frame_escape.v:12$7_CHECK[0:0]$33
 (define-fun |top_u 9| ((state |top_s|)) Bool (or (= ((_ extract 0 0) (|top#34| state)) #b1) (not true))) ; $assume$measure/frame_escape.v:12$119
 (define-fun |top#35| ((state |top_s|)) (_ BitVec 4) (bvxor ((_ extract 19 16) (|top#0| state)) ((_ extract 23 20) (|top#0| state)))) ; $reduce_xor$measure/frame_escape.v:12$81.genblk1.folded
-(define-fun |top#36| ((state |top_s|)) (_ BitVec 2) (bvxor ((_ extract 1 0) (|top#35| state)) ((_ extract 3 2) (|top#35| state)))) ; $reduce_xor$measure/frame_escape.v:12$81.genblk1.rest.genblk1.folded
-(define-fun |top#37| ((state |top_s|)) (_ BitVec 1) (bvxor ((_ extract 0 0) (|top#36| state)) ((_ extract 1 1) (|top#36| state)))) ; $reduce_xor$measure/frame_escape.v:12$81.genblk1.rest.genblk1.rest.genblk1.folded
+(define-fun |top#36| ((state |top_s|)) (_ BitVec 2) (bvxor ((_ extract 1 0) (|top#35| state)) ((_ extract 3 2) (|top#35| state)))) ; $techmap$reduce_xor$measure/frame_escape.v:12$81.$reduce_xor$../../examples/btor2/list.v:101$153.genblk1.folded
+(define-fun |top#37| ((state |top_s|)) (_ BitVec 1) (bvxor ((_ extract 0 0) (|top#36| state)) ((_ extract 1 1) (|top#36| state)))) ; $reduce_xor$measure/frame_escape.v:12$81_Y
 (define-fun |top#38| ((state |top_s|)) (_ BitVec 1) (bvnot (|top#37| state))) ; $0$formal$measure/frame_escape.v:12$9_CHECK[0:0]$37
 (define-fun |top_u 10| ((state |top_s|)) Bool (or (= ((_ extract 0 0) (|top#38| state)) #b1) (not true))) ; $assume$measure/frame_escape.v:12$121
 (define-fun |top#39| ((state |top_s|)) (_ BitVec 4) (bvxor ((_ extract 27 24) (|top#0| state)) ((_ extract 31 28) (|top#0| state)))) ; $reduce_xor$measure/frame_escape.v:12$87.genblk1.folded
-(define-fun |top#40| ((state |top_s|)) (_ BitVec 2) (bvxor ((_ extract 1 0) (|top#39| state)) ((_ extract 3 2) (|top#39| state)))) ; $reduce_xor$measure/frame_escape.v:12$87.genblk1.rest.genblk1.folded
-(define-fun |top#41| ((state |top_s|)) (_ BitVec 1) (bvxor ((_ extract 0 0) (|top#40| state)) ((_ extract 1 1) (|top#40| state)))) ; $reduce_xor$measure/frame_escape.v:12$87.genblk1.rest.genblk1.rest.genblk1.folded
+(define-fun |top#40| ((state |top_s|)) (_ BitVec 2) (bvxor ((_ extract 1 0) (|top#39| state)) ((_ extract 3 2) (|top#39| state)))) ; $techmap$reduce_xor$measure/frame_escape.v:12$87.$reduce_xor$../../examples/btor2/list.v:101$153.genblk1.folded
+(define-fun |top#41| ((state |top_s|)) (_ BitVec 1) (bvxor ((_ extract 0 0) (|top#40| state)) ((_ extract 1 1) (|top#40| state)))) ; $reduce_xor$measure/frame_escape.v:12$87_Y
 (define-fun |top#42| ((state |top_s|)) (_ BitVec 1) (bvnot (|top#41| state))) ; $0$formal$measure/frame_escape.v:12$11_CHECK[0:0]$41
 (define-fun |top_u 11| ((state |top_s|)) Bool (or (= ((_ extract 0 0) (|top#42| state)) #b1) (not true))) ; $assume$measure/frame_escape.v:12$123
 (define-fun |top#43| ((state |top_s|)) (_ BitVec 4) (bvxor ((_ extract 35 32) (|top#0| state)) ((_ extract 39 36) (|top#0| state)))) ; $reduce_xor$measure/frame_escape.v:12$93.genblk1.folded
-(define-fun |top#44| ((state |top_s|)) (_ BitVec 2) (bvxor ((_ extract 1 0) (|top#43| state)) ((_ extract 3 2) (|top#43| state)))) ; $reduce_xor$measure/frame_escape.v:12$93.genblk1.rest.genblk1.folded
-(define-fun |top#45| ((state |top_s|)) (_ BitVec 1) (bvxor ((_ extract 0 0) (|top#44| state)) ((_ extract 1 1) (|top#44| state)))) ; $reduce_xor$measure/frame_escape.v:12$93.genblk1.rest.genblk1.rest.genblk1.folded
+(define-fun |top#44| ((state |top_s|)) (_ BitVec 2) (bvxor ((_ extract 1 0) (|top#43| state)) ((_ extract 3 2) (|top#43| state)))) ; $techmap$reduce_xor$measure/frame_escape.v:12$93.$reduce_xor$../../examples/btor2/list.v:101$153.genblk1.folded
+(define-fun |top#45| ((state |top_s|)) (_ BitVec 1) (bvxor ((_ extract 0 0) (|top#44| state)) ((_ extract 1 1) (|top#44| state)))) ; $reduce_xor$measure/frame_escape.v:12$93_Y
 (define-fun |top#46| ((state |top_s|)) (_ BitVec 1) (bvnot (|top#45| state))) ; $0$formal$measure/frame_escape.v:12$13_CHECK[0:0]$45
 (define-fun |top_u 12| ((state |top_s|)) Bool (or (= ((_ extract 0 0) (|top#46| state)) #b1) (not true))) ; $assume$measure/frame_escape.v:12$125
 (define-fun |top#47| ((state |top_s|)) (_ BitVec 4) (bvxor ((_ extract 43 40) (|top#0| state)) ((_ extract 47 44) (|top#0| state)))) ; $reduce_xor$measure/frame_escape.v:12$99.genblk1.folded
-(define-fun |top#48| ((state |top_s|)) (_ BitVec 2) (bvxor ((_ extract 1 0) (|top#47| state)) ((_ extract 3 2) (|top#47| state)))) ; $reduce_xor$measure/frame_escape.v:12$99.genblk1.rest.genblk1.folded
-(define-fun |top#49| ((state |top_s|)) (_ BitVec 1) (bvxor ((_ extract 0 0) (|top#48| state)) ((_ extract 1 1) (|top#48| state)))) ; $reduce_xor$measure/frame_escape.v:12$99.genblk1.rest.genblk1.rest.genblk1.folded
+(define-fun |top#48| ((state |top_s|)) (_ BitVec 2) (bvxor ((_ extract 1 0) (|top#47| state)) ((_ extract 3 2) (|top#47| state)))) ; $techmap$reduce_xor$measure/frame_escape.v:12$99.$reduce_xor$../../examples/btor2/list.v:101$153.genblk1.folded
+(define-fun |top#49| ((state |top_s|)) (_ BitVec 1) (bvxor ((_ extract 0 0) (|top#48| state)) ((_ extract 1 1) (|top#48| state)))) ; $reduce_xor$measure/frame_escape.v:12$99_Y
 (define-fun |top#50| ((state |top_s|)) (_ BitVec 1) (bvnot (|top#49| state))) ; $0$formal$measure/frame_escape.v:12$15_CHECK[0:0]$49
 (define-fun |top_u 13| ((state |top_s|)) Bool (or (= ((_ extract 0 0) (|top#50| state)) #b1) (not true))) ; $assume$measure/frame_escape.v:12$127
 (define-fun |top#51| ((state |top_s|)) (_ BitVec 4) (bvxor ((_ extract 51 48) (|top#0| state)) ((_ extract 55 52) (|top#0| state)))) ; $reduce_xor$measure/frame_escape.v:12$105.genblk1.folded
-(define-fun |top#52| ((state |top_s|)) (_ BitVec 2) (bvxor ((_ extract 1 0) (|top#51| state)) ((_ extract 3 2) (|top#51| state)))) ; $reduce_xor$measure/frame_escape.v:12$105.genblk1.rest.genblk1.folded
-(define-fun |top#53| ((state |top_s|)) (_ BitVec 1) (bvxor ((_ extract 0 0) (|top#52| state)) ((_ extract 1 1) (|top#52| state)))) ; $reduce_xor$measure/frame_escape.v:12$105.genblk1.rest.genblk1.rest.genblk1.folded
+(define-fun |top#52| ((state |top_s|)) (_ BitVec 2) (bvxor ((_ extract 1 0) (|top#51| state)) ((_ extract 3 2) (|top#51| state)))) ; $techmap$reduce_xor$measure/frame_escape.v:12$105.$reduce_xor$../../examples/btor2/list.v:101$153.genblk1.folded
+(define-fun |top#53| ((state |top_s|)) (_ BitVec 1) (bvxor ((_ extract 0 0) (|top#52| state)) ((_ extract 1 1) (|top#52| state)))) ; $reduce_xor$measure/frame_escape.v:12$105_Y
 (define-fun |top#54| ((state |top_s|)) (_ BitVec 1) (bvnot (|top#53| state))) ; $0$formal$measure/frame_escape.v:12$17_CHECK[0:0]$53
 (define-fun |top_u 14| ((state |top_s|)) Bool (or (= ((_ extract 0 0) (|top#54| state)) #b1) (not true))) ; $assume$measure/frame_escape.v:12$129
 (define-fun |top#55| ((state |top_s|)) Bool (= ((_ extract 7 0) (|top#0| state)) #b00000110)) ; $0$formal$measure/frame_escape.v:13$19_CHECK[0:0]$57

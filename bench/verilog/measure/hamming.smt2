@@ -4,22 +4,22 @@
 (define-fun |top#0| ((state |top_s|)) (_ BitVec 16) ((_ extract 16 1) state)) ; \word
 (define-fun |top_n word| ((state |top_s|)) (_ BitVec 16) (|top#0| state))
 (define-fun |top#1| ((state |top_s|)) (_ BitVec 8) (bvxor ((_ extract 7 0) (|top#0| state)) ((_ extract 15 8) (|top#0| state)))) ; $reduce_xor$measure/hamming.v:11$29.genblk1.folded
-(define-fun |top#2| ((state |top_s|)) (_ BitVec 4) (bvxor ((_ extract 3 0) (|top#1| state)) ((_ extract 7 4) (|top#1| state)))) ; $reduce_xor$measure/hamming.v:11$29.genblk1.rest.genblk1.folded
-(define-fun |top#3| ((state |top_s|)) (_ BitVec 2) (bvxor ((_ extract 1 0) (|top#2| state)) ((_ extract 3 2) (|top#2| state)))) ; $reduce_xor$measure/hamming.v:11$29.genblk1.rest.genblk1.rest.genblk1.folded
+(define-fun |top#2| ((state |top_s|)) (_ BitVec 4) (bvxor ((_ extract 3 0) (|top#1| state)) ((_ extract 7 4) (|top#1| state)))) ; $techmap$reduce_xor$measure/hamming.v:11$29.$reduce_xor$../../examples/btor2/list.v:101$136.genblk1.folded
+(define-fun |top#3| ((state |top_s|)) (_ BitVec 2) (bvxor ((_ extract 1 0) (|top#2| state)) ((_ extract 3 2) (|top#2| state)))) ; $techmap$techmap$reduce_xor$measure/hamming.v:11$29.$reduce_xor$../../examples/btor2/list.v:101$136.$reduce_xor$../../examples/btor2/list.v:101$138.genblk1.folded
 (define-fun |top#4| ((state |top_s|)) (_ BitVec 1) (bvxor ((_ extract 0 0) (|top#3| state)) ((_ extract 1 1) (|top#3| state)))) ; $0$formal$measure/hamming.v:10$2_CHECK[0:0]$6
 (define-fun |top_u 0| ((state |top_s|)) Bool (or (= ((_ extract 0 0) (|top#4| state)) #b1) (not true))) ; $assume$measure/hamming.v:10$33
-(define-fun |top#5| ((state |top_s|)) (_ BitVec 1) (bvnot ((_ extract 1 1) (|top#0| state)))) ; $auto$opt_expr.cc:205:group_cell_inputs$85 [0]
-(define-fun |top#6| ((state |top_s|)) (_ BitVec 1) (bvnot ((_ extract 2 2) (|top#0| state)))) ; $auto$opt_expr.cc:205:group_cell_inputs$85 [1]
+(define-fun |top#5| ((state |top_s|)) (_ BitVec 1) (bvnot ((_ extract 1 1) (|top#0| state)))) ; $auto$opt_expr.cc:205:group_cell_inputs$84 [0]
+(define-fun |top#6| ((state |top_s|)) (_ BitVec 1) (bvnot ((_ extract 2 2) (|top#0| state)))) ; $auto$opt_expr.cc:205:group_cell_inputs$84 [1]
 (define-fun |top#7| ((state |top_s|)) (_ BitVec 2) (ite (= ((_ extract 3 3) (|top#0| state)) #b1) (concat (|top#6| state) (|top#5| state)) ((_ extract 2 1) (|top#0| state)))) ; $3\syndrome[3:0] [1:0]
-(define-fun |top#8| ((state |top_s|)) (_ BitVec 1) (bvnot ((_ extract 0 0) (|top#7| state)))) ; $auto$opt_expr.cc:205:group_cell_inputs$95 [2]
-(define-fun |top#9| ((state |top_s|)) (_ BitVec 1) (bvnot ((_ extract 4 4) (|top#0| state)))) ; $auto$opt_expr.cc:205:group_cell_inputs$95 [1]
+(define-fun |top#8| ((state |top_s|)) (_ BitVec 1) (bvnot ((_ extract 0 0) (|top#7| state)))) ; $auto$opt_expr.cc:205:group_cell_inputs$94 [2]
+(define-fun |top#9| ((state |top_s|)) (_ BitVec 1) (bvnot ((_ extract 4 4) (|top#0| state)))) ; $auto$opt_expr.cc:205:group_cell_inputs$94 [1]
 (define-fun |top#10| ((state |top_s|)) (_ BitVec 2) (ite (= ((_ extract 5 5) (|top#0| state)) #b1) (concat (|top#9| state) (|top#8| state)) (concat ((_ extract 4 4) (|top#0| state)) ((_ extract 0 0) (|top#7| state))))) ; { $5\syndrome[3:0] [2] $5\syndrome[3:0] [0] }
-(define-fun |top#11| ((state |top_s|)) (_ BitVec 1) (bvnot ((_ extract 1 1) (|top#7| state)))) ; $auto$opt_expr.cc:205:group_cell_inputs$102 [1]
-(define-fun |top#12| ((state |top_s|)) (_ BitVec 1) (bvnot ((_ extract 1 1) (|top#10| state)))) ; $auto$opt_expr.cc:205:group_cell_inputs$102 [2]
+(define-fun |top#11| ((state |top_s|)) (_ BitVec 1) (bvnot ((_ extract 1 1) (|top#7| state)))) ; $auto$opt_expr.cc:205:group_cell_inputs$101 [1]
+(define-fun |top#12| ((state |top_s|)) (_ BitVec 1) (bvnot ((_ extract 1 1) (|top#10| state)))) ; $auto$opt_expr.cc:205:group_cell_inputs$101 [2]
 (define-fun |top#13| ((state |top_s|)) (_ BitVec 2) (ite (= ((_ extract 6 6) (|top#0| state)) #b1) (concat (|top#12| state) (|top#11| state)) (concat ((_ extract 1 1) (|top#10| state)) ((_ extract 1 1) (|top#7| state))))) ; $6\syndrome[3:0] [2:1]
-(define-fun |top#14| ((state |top_s|)) (_ BitVec 1) (bvnot ((_ extract 0 0) (|top#10| state)))) ; $auto$opt_expr.cc:205:group_cell_inputs$109 [0]
-(define-fun |top#15| ((state |top_s|)) (_ BitVec 1) (bvnot ((_ extract 0 0) (|top#13| state)))) ; $auto$opt_expr.cc:205:group_cell_inputs$109 [1]
-(define-fun |top#16| ((state |top_s|)) (_ BitVec 1) (bvnot ((_ extract 1 1) (|top#13| state)))) ; $auto$opt_expr.cc:205:group_cell_inputs$109 [2]
+(define-fun |top#14| ((state |top_s|)) (_ BitVec 1) (bvnot ((_ extract 0 0) (|top#10| state)))) ; $auto$opt_expr.cc:205:group_cell_inputs$108 [0]
+(define-fun |top#15| ((state |top_s|)) (_ BitVec 1) (bvnot ((_ extract 0 0) (|top#13| state)))) ; $auto$opt_expr.cc:205:group_cell_inputs$108 [1]
+(define-fun |top#16| ((state |top_s|)) (_ BitVec 1) (bvnot ((_ extract 1 1) (|top#13| state)))) ; $auto$opt_expr.cc:205:group_cell_inputs$108 [2]
 (define-fun |top#17| ((state |top_s|)) (_ BitVec 3) (ite (= ((_ extract 7 7) (|top#0| state)) #b1) (concat (|top#16| state) (concat (|top#15| state) (|top#14| state))) (concat (|top#13| state) ((_ extract 0 0) (|top#10| state))))) ; $7\syndrome[3:0] [2:0]
 (define-fun |top#18| ((state |top_s|)) (_ BitVec 4) (bvxor (concat ((_ extract 8 8) (|top#0| state)) (|top#17| state)) #b1001)) ; $xor$measure/hamming.v:9$20_Y
 (define-fun |top#19| ((state |top_s|)) (_ BitVec 4) (ite (= ((_ extract 9 9) (|top#0| state)) #b1) (|top#18| state) (concat ((_ extract 8 8) (|top#0| state)) (|top#17| state)))) ; $9\syndrome[3:0]

@@ -22,9 +22,9 @@
 (define-fun |top#11| ((state |top_s|)) (_ BitVec 1) (bvand (ite (|top#9| state) #b1 #b0) (ite (|top#10| state) #b1 #b0))) ; $0$formal$measure/iir.v:11$3_CHECK[0:0]$29
 (define-fun |top_u 1| ((state |top_s|)) Bool (or (= ((_ extract 0 0) (|top#11| state)) #b1) (not true))) ; $assume$measure/iir.v:11$56
 (define-fun |top#12| ((state |top_s|)) (_ BitVec 16) (bvsub (|top#1| state) (concat ((_ extract 15 15) (|top#0| state)) (concat ((_ extract 15 15) (|top#0| state)) ((_ extract 15 2) (|top#0| state)))))) ; { $sshr$measure/iir.v:4$10_Y [15] $sshr$measure/iir.v:4$10_Y [12:0] $sub$measure/iir.v:4$9_Y [1:0] }
-(define-fun |top#13| ((state |top_s|)) (_ BitVec 15) (bvadd (concat ((_ extract 15 15) (|top#0| state)) ((_ extract 15 2) (|top#0| state))) (concat ((_ extract 15 15) (|top#12| state)) ((_ extract 15 2) (|top#12| state))))) ; \y1 [14:0]
-(define-fun |top#14| ((state |top_s|)) (_ BitVec 16) (bvsub (|top#2| state) (concat ((_ extract 14 14) (|top#13| state)) (|top#13| state)))) ; { $sshr$measure/iir.v:5$13_Y [15] $sshr$measure/iir.v:5$13_Y [12:0] $sub$measure/iir.v:5$12_Y [1:0] }
-(define-fun |top#15| ((state |top_s|)) (_ BitVec 16) (bvadd (concat ((_ extract 14 14) (|top#13| state)) (|top#13| state)) (concat ((_ extract 15 15) (|top#14| state)) (concat ((_ extract 15 15) (|top#14| state)) ((_ extract 15 2) (|top#14| state)))))) ; \y2
+(define-fun |top#13| ((state |top_s|)) (_ BitVec 16) (bvadd (concat ((_ extract 15 15) (|top#0| state)) (concat ((_ extract 15 15) (|top#0| state)) ((_ extract 15 2) (|top#0| state)))) (concat ((_ extract 15 15) (|top#12| state)) (concat ((_ extract 15 15) (|top#12| state)) ((_ extract 15 2) (|top#12| state)))))) ; \y1
+(define-fun |top#14| ((state |top_s|)) (_ BitVec 16) (bvsub (|top#2| state) (|top#13| state))) ; { $sshr$measure/iir.v:5$13_Y [15] $sshr$measure/iir.v:5$13_Y [12:0] $sub$measure/iir.v:5$12_Y [1:0] }
+(define-fun |top#15| ((state |top_s|)) (_ BitVec 16) (bvadd (|top#13| state) (concat ((_ extract 15 15) (|top#14| state)) (concat ((_ extract 15 15) (|top#14| state)) ((_ extract 15 2) (|top#14| state)))))) ; \y2
 (define-fun |top#16| ((state |top_s|)) Bool (bvslt (|top#15| state) #b1111110000011000)) ; $0$formal$measure/iir.v:12$4_CHECK[0:0]$31
 (define-fun |top_u 2| ((state |top_s|)) Bool (or (|top#16| state) (not true))) ; $assume$measure/iir.v:12$57
 (define-fun |top#17| ((state |top_s|)) Bool (bvslt #b1111010001001000 (|top#15| state))) ; $0$formal$measure/iir.v:13$5_CHECK[0:0]$33

@@ -6,12 +6,12 @@
 (define-fun |top#1| ((state |top_s|)) (_ BitVec 24) ((_ extract 29 6) state)) ; \steps
 (define-fun |top_n steps| ((state |top_s|)) (_ BitVec 24) (|top#1| state))
 (define-fun |top#2| ((state |top_s|)) (_ BitVec 23) (bvand ((_ extract 22 0) (|top#1| state)) ((_ extract 23 1) (|top#1| state)))) ; { \clean [23] $and$measure/thermometer.v:3$7_Y [21:1] \clean [0] }
-(define-fun |top#3| ((state |top_s|)) (_ BitVec 22) (bvor ((_ extract 22 1) (|top#2| state)) ((_ extract 21 0) (|top#2| state)))) ; $auto$opt_expr.cc:205:group_cell_inputs$80
+(define-fun |top#3| ((state |top_s|)) (_ BitVec 22) (bvor ((_ extract 22 1) (|top#2| state)) ((_ extract 21 0) (|top#2| state)))) ; $auto$opt_expr.cc:205:group_cell_inputs$78
 (define-fun |top#4| ((state |top_s|)) (_ BitVec 22) (bvand ((_ extract 23 2) (|top#1| state)) ((_ extract 21 0) (|top#1| state)))) ; $and$measure/thermometer.v:3$13_Y [22:1]
 (define-fun |top#5| ((state |top_s|)) (_ BitVec 22) (bvor (|top#3| state) (|top#4| state))) ; \clean [22:1]
-(define-fun |top#6| ((state |top_s|)) (_ BitVec 3) (bvadd (concat #b00 ((_ extract 0 0) (|top#2| state))) (concat #b00 ((_ extract 0 0) (|top#5| state))))) ; $add$measure/thermometer.v:8$25_Y
-(define-fun |top#7| ((state |top_s|)) (_ BitVec 4) (bvadd (concat #b0 (|top#6| state)) (concat #b000 ((_ extract 1 1) (|top#5| state))))) ; $add$measure/thermometer.v:8$26_Y [3:0]
-(define-fun |top#8| ((state |top_s|)) (_ BitVec 5) (bvadd (concat #b0 (|top#7| state)) (concat #b0000 ((_ extract 2 2) (|top#5| state))))) ; $add$measure/thermometer.v:8$27_Y
+(define-fun |top#6| ((state |top_s|)) (_ BitVec 5) (bvadd (concat #b0000 ((_ extract 0 0) (|top#2| state))) (concat #b0000 ((_ extract 0 0) (|top#5| state))))) ; $add$measure/thermometer.v:8$25_Y
+(define-fun |top#7| ((state |top_s|)) (_ BitVec 5) (bvadd (|top#6| state) (concat #b0000 ((_ extract 1 1) (|top#5| state))))) ; $add$measure/thermometer.v:8$26_Y
+(define-fun |top#8| ((state |top_s|)) (_ BitVec 5) (bvadd (|top#7| state) (concat #b0000 ((_ extract 2 2) (|top#5| state))))) ; $add$measure/thermometer.v:8$27_Y
 (define-fun |top#9| ((state |top_s|)) (_ BitVec 5) (bvadd (|top#8| state) (concat #b0000 ((_ extract 3 3) (|top#5| state))))) ; $add$measure/thermometer.v:8$28_Y
 (define-fun |top#10| ((state |top_s|)) (_ BitVec 5) (bvadd (|top#9| state) (concat #b0000 ((_ extract 4 4) (|top#5| state))))) ; $add$measure/thermometer.v:8$29_Y
 (define-fun |top#11| ((state |top_s|)) (_ BitVec 5) (bvadd (|top#10| state) (concat #b0000 ((_ extract 5 5) (|top#5| state))))) ; $add$measure/thermometer.v:8$30_Y
@@ -32,7 +32,7 @@
 (define-fun |top#26| ((state |top_s|)) (_ BitVec 5) (bvadd (|top#25| state) (concat #b0000 ((_ extract 20 20) (|top#5| state))))) ; $add$measure/thermometer.v:8$45_Y
 (define-fun |top#27| ((state |top_s|)) (_ BitVec 5) (bvadd (|top#26| state) (concat #b0000 ((_ extract 21 21) (|top#5| state))))) ; $add$measure/thermometer.v:8$46_Y
 (define-fun |top#28| ((state |top_s|)) (_ BitVec 5) (bvadd (|top#27| state) (concat #b0000 ((_ extract 22 22) (|top#2| state))))) ; \count
-(define-fun |top#29| ((state |top_s|)) (_ BitVec 4) (bvxor ((_ extract 3 0) (|top#28| state)) ((_ extract 4 1) (|top#28| state)))) ; $auto$opt_expr.cc:205:group_cell_inputs$77
+(define-fun |top#29| ((state |top_s|)) (_ BitVec 4) (bvxor ((_ extract 3 0) (|top#28| state)) ((_ extract 4 1) (|top#28| state)))) ; $auto$opt_expr.cc:205:group_cell_inputs$75
 (define-fun |top#30| ((state |top_s|)) Bool (= (concat ((_ extract 4 4) (|top#28| state)) (|top#29| state)) #b11001)) ; $0$formal$measure/thermometer.v:10$4_CHECK[0:0]$20
 (define-fun |top_u 0| ((state |top_s|)) Bool (or (|top#30| state) (not true))) ; $assume$measure/thermometer.v:10$61
 (define-fun |top#31| ((state |top_s|)) (_ BitVec 4) (bvsub ((_ extract 4 1) (|top#28| state)) #b0001)) ; $sub$measure/thermometer.v:12$55_Y [4:1]
