@@ -44,7 +44,8 @@ pub struct Args {
     /// How many threads; as many as there are processors where none are asked for
     #[arg(long, value_name = "THREADS", value_parser = clap::value_parser!(u16).range(1..=1024))]
     jobs: Option<u16>,
-    /// Of a hundred steps, how many ask for the inverse set; a quotient and another branch's value never do
+    /// Of a hundred steps, how many ask for the inverse set; a quotient, another branch's value and steps to a model that
+    /// linear equations gave never do
     #[arg(long, default_value_t = (Manner::USUAL.drawing.inverse / 10) as u8, value_name = "PERCENT", value_parser = clap::value_parser!(u8).range(0..=100))]
     inverse: u8,
     /// Write the tape that led to the model to a file, as run takes it
@@ -76,13 +77,9 @@ pub fn run(args: &Args) -> Result<ExitCode, Fault> {
     let begun = Instant::now();
     let given = given(&args.file, args.names.as_deref())?;
     let at = |fault: String| Fault::at(&args.file, fault);
-    let ready = Ready::new(&given.bytes)
-        .map_err(|refusal| at(apart(format!("refused {}", refusal.number), "accepted")))?;
+    let ready = ready(&given.bytes).map_err(at)?;
     let is_closed = closed(&given).map_err(at)?;
-    if is_closed != ready.closed {
-        let said = |closed: bool| if closed { "closed" } else { "not closed" };
-        return Err(at(apart(said(ready.closed), said(is_closed))));
-    }
+    same(ready.closed, is_closed).map_err(at)?;
     if is_closed {
         print::text(&shown(args.format, &given, &Outcome::Closed)?)?;
         return Ok(ExitCode::from(20));
@@ -111,6 +108,21 @@ fn asked(args: &Args, begun: Instant) -> Asked {
         until: (args.time > 0.0).then(|| begun + Duration::from_secs_f64(args.time)),
         threads: args.jobs.map_or_else(processors, usize::from),
         manner,
+    }
+}
+
+/// What the guide works on. The problem is accepted, so that it must take it.
+fn ready(bytes: &[u8]) -> Result<Ready, String> {
+    Ready::new(bytes).map_err(|refusal| apart(format!("refused {}", refusal.number), "accepted"))
+}
+
+/// Whether a problem is closed, which the guide must see as the proved run does.
+fn same(guide: bool, run: bool) -> Result<(), String> {
+    let said = |closed: bool| if closed { "closed" } else { "not closed" };
+    if guide == run {
+        Ok(())
+    } else {
+        Err(apart(said(guide), said(run)))
     }
 }
 
@@ -183,5 +195,16 @@ mod tests {
         assert!(wrong(|run| run.values[0] ^= 8).contains("with other values"));
         assert!(wrong(|run| run.start[0] = 16).contains("refused 15 at 0"));
         assert!(wrong(|run| run.moves -= 1).contains("'spent moves 0 steps 0 words 0'"));
+    }
+
+    /// So is one that refuses what the library accepts, or sees a closed problem otherwise.
+    #[test]
+    fn a_guide_that_sees_another_problem_is_caught() {
+        let wrong = "and the proved run 'accepted': the guide is wrong";
+        assert!(ready(b"TBV").is_err_and(|fault| fault == format!("the guide says 'refused 1' {wrong}")));
+        assert!(ready(&text::worked_example().bytes()).is_ok());
+        let expected = "the guide says 'closed' and the proved run 'not closed': the guide is wrong";
+        assert_eq!(same(true, false), Err(expected.into()));
+        assert!(same(false, true).is_err() && same(true, true).is_ok() && same(false, false).is_ok());
     }
 }

@@ -129,15 +129,37 @@ fn way(args: &Args, problem: &Accepted, solution: &[u64]) -> Result<Way, String>
     problem.problem.evaluate(&mut now);
     let distance = recipe::distance(&search, &now, solution) as u16;
     let tape = recipe::tape(&search, &now, solution, &mut || chance.next_u64());
-    let answer =
-        walumpeh::run(&problem.bytes, &mut now, &tape, distance).map_err(|refusal| refusal.to_string())?;
-    let words = tape.len() as u64;
-    if answer.verdict != Verdict::Model
-        || answer.words != words
-        || words > problem.problem.words_for(distance.into())
-    {
-        let said = answer.verdict.name();
-        return Err(format!("the tape of {words} words leads to '{said}': it is wrong"));
-    }
+    let most = problem.problem.words_for(distance.into());
+    judged(&problem.bytes, now, &tape, (distance, most))?;
     Ok(Way { start, distance, tape })
+}
+
+/// Whether the proved run goes to a model along the whole tape, in so many moves and at most so many words.
+fn judged(bytes: &[u8], mut values: Vec<u64>, tape: &[u64], (moves, most): (u16, u64)) -> Result<(), String> {
+    let answer = walumpeh::run(bytes, &mut values, tape, moves).map_err(|refusal| refusal.to_string())?;
+    let words = tape.len() as u64;
+    if answer.verdict == Verdict::Model && answer.words == words && words <= most {
+        return Ok(());
+    }
+    let said = answer.verdict.name();
+    Err(format!("the tape of {words} words, of at most {most}, leads to '{said}': it is wrong"))
+}
+
+#[cfg(test)]
+mod tests {
+    use super::*;
+
+    /// A tape that leads nowhere, has a word too many, or more than demand 3 allows is caught.
+    #[test]
+    fn a_wrong_tape_is_caught() {
+        let bytes = text::worked_example().bytes();
+        let judge = |tape: &[u64], most: u64| judged(&bytes, vec![0; 5], tape, (1, most));
+        assert_eq!(judge(&[0, 0, 9, 0, 4], 5), Ok(()));
+        let wrong = |words: u64, most: u64, said: &str| {
+            Err(format!("the tape of {words} words, of at most {most}, leads to '{said}': it is wrong"))
+        };
+        assert_eq!(judge(&[0, 0, 9, 0], 5), wrong(4, 5, "ended"));
+        assert_eq!(judge(&[0, 0, 9, 0, 4, 0], 6), wrong(6, 6, "model"));
+        assert_eq!(judge(&[0, 0, 9, 0, 4], 4), wrong(5, 4, "model"));
+    }
 }

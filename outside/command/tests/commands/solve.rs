@@ -115,7 +115,7 @@ fn a_terminal_sees_how_far_it_is() {
         assert_eq!(libc::openpty(&mut ours, &mut theirs, none.0, none.1, none.2), 0);
         (File::from_raw_fd(ours), File::from_raw_fd(theirs))
     };
-    let mut command = at.command("solve odd.txt --time 1 --jobs 1");
+    let mut command = at.command("solve odd.txt --time 0.6 --jobs 1");
     command.env("TERM", "xterm").stderr(terminal).stdout(Stdio::piped());
     let child = command.spawn().unwrap();
     // The terminal ends, with an error, where nobody holds its other side any more.
@@ -125,7 +125,47 @@ fn a_terminal_sees_how_far_it_is() {
     let output = child.wait_with_output().unwrap();
     let lines = String::from_utf8_lossy(&lines);
     assert!(lines.contains(" runs, ") && lines.contains("moves/s, fewest unsatisfied roots 1"), "{lines}");
+    assert!(lines.ends_with("\r\x1b[K"), "{lines:?}");
     assert!(text(&output.stdout).starts_with("not found runs "));
+    // In a pipe nothing is said, for as long.
+    assert!(ends(&at, "solve odd.txt --time 0.6 --jobs 1", 0).starts_with("not found runs "));
+}
+
+/// The words e of the tape ask for the inverse set as often as it is asked for.
+#[test]
+fn inverse_choices_are_asked_for() {
+    let at = At::new("inverse");
+    at.write("above.txt", "x = var 8\nk = const 8 250\nok = below k x\nroot ok\n");
+    for (inverse, odd) in [(0, 1), (100, 0)] {
+        for seed in 1..=5 {
+            let line = format!("solve above.txt --inverse {inverse} --seed {seed} --tape tape.bin");
+            let printed = ends(&at, &line, 10);
+            assert!(printed.starts_with("verdict model moves 1 steps 1 words 3\n"), "{printed}");
+            let words = model::files::words_of(&at.read("tape.bin"));
+            assert_eq!((words[0], words.len(), words[2] % 2), (1, 4, odd), "{words:?}");
+        }
+    }
+}
+
+/// A checksum is a linear equation: its model is known at once, and the moves lead there.
+#[test]
+fn a_checksum_is_solved_at_once() {
+    let at = At::new("checksum");
+    at.write(
+        "sum.txt",
+        "x = var 64\nfar = const 64 13\nnear = const 64 7\nl = shl x far\na = xor x l\nr = lshr a near\n\
+        h = xor a r\nk = const 64 1311768467463790320\nok = eq h k\nroot ok\n",
+    );
+    at.prints("build sum.txt sum.tbv", "");
+    for seed in 1..=5 {
+        let line = format!("solve sum.txt --runs 1 --seed {seed} --tape tape.bin --start start.bin");
+        let printed = ends(&at, &line, 10);
+        assert!(printed.starts_with("verdict model moves 1 "), "{printed}");
+        let x = value(&printed, "x");
+        let a = x ^ x << 13;
+        assert_eq!(a ^ a >> 7, 1311768467463790320);
+        assert_eq!(at.printed("run sum.tbv"), printed.replace("x ", "0 "));
+    }
 }
 
 /// A seed finds the same whatever the number of threads; another one may find something else.
@@ -168,6 +208,7 @@ fn what_cannot_be_solved() {
     at.fails("solve short.tbv", "short.tbv: refused 1 at 0: fewer than 9 bytes");
     at.write("one.txt", "x\n");
     at.fails("solve sum.tbv --names one.txt", "one.txt: 1 names for 2 variables");
+    at.fails("solve sum.tbv --tape none/t.bin", "none/t.bin: No such file or directory (os error 2)");
     at.fails("solve sum.tbv --tape sum.tbv", "sum.tbv: named for two things at once");
     at.fails("solve sum.tbv --tape new.bin --start new.bin", "new.bin: named for two things at once");
     at.write("bars.txt", "a|b\ny\n");
@@ -299,7 +340,7 @@ fn values_that_are_no_solution() {
     at.fails("tape sum.tbv --to none", "none: No such file or directory (os error 2)");
     at.write("words.bin", model::files::bytes_of(&[190, 10, 0, 0, 0, 0]));
     at.fails("tape sum.tbv words.bin tape.bin --to words.bin", "words.bin: named for two things at once");
-    for option in ["--budget 3", "--inverse 90", "--uniform", "--words 7"] {
+    for option in ["--budget 3", "--inverse 90", "--uniform", "--words 7", "--starts 3"] {
         at.misunderstood(&format!("tape sum.tbv --to words.bin {option}"), &["--to", "cannot be used with"]);
     }
     at.misunderstood("tape sum.tbv --names names.txt", &["--to"]);
