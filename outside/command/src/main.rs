@@ -13,6 +13,7 @@
 //! | `found`    | a model in the forms that it is printed in                |
 //! | `progress` | the line on a terminal that tells how far it is           |
 //! | `names`    | lists of the variables' names                             |
+//! | `pins`     | values for nodes, from an answer or a start               |
 //! | `fault`    | what goes wrong, in words for the user                    |
 //! | `started`  | what has to be looked at before Rust's own start          |
 
@@ -25,6 +26,7 @@ mod found;
 mod given;
 mod known;
 mod names;
+mod pins;
 mod problem;
 mod progress;
 mod started;

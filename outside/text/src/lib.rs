@@ -5,10 +5,12 @@
 //! | `form`  | a problem from text, one line a node                                  |
 //! | `sugar` | the names that stand for several nodes of it                          |
 //! | `shown` | a problem's bytes as that text, with the refused place marked         |
+//! | `dot`   | a problem as a picture for Graphviz                                   |
 //! | `smt2`  | a problem as SMT-LIB text                                             |
 //!
 //! Nothing here decides whether bytes are a problem: that is the proved library's to say.
 
+pub mod dot;
 pub mod form;
 pub mod shown;
 pub mod smt2;

@@ -1,11 +1,12 @@
 //! walumpeh export: a problem as SMT-LIB text.
 
 use crate::fault::Fault;
+use crate::files::print;
 use crate::files::write::{self, Output};
-use crate::files::{print, read};
 use crate::names;
+use crate::pins::{answer_pins, fitting, pin_of, start_pins, Pin};
 use crate::problem::accepted;
-use ::model::{ones, Problem};
+use ::model::Problem;
 use std::path::{Path, PathBuf};
 use std::process::ExitCode;
 use text::smt2::{model, nodes, pin, symbol, values, Variables};
@@ -51,22 +52,8 @@ pub struct Args {
     write_names: Option<PathBuf>,
 }
 
-/// A node's id and its value.
-type Pin = (usize, u64);
-
 fn id_and_value(text: &str) -> Result<Pin, String> {
     pin_of(text, '=').ok_or("not ID=VALUE".into())
-}
-
-/// An id and a value with a sign between them.
-fn pin_of(text: &str, between: char) -> Option<Pin> {
-    let (id, value) = text.split_once(between)?;
-    Some((usize::try_from(decimal(id)?).ok()?, decimal(value)?))
-}
-
-/// Decimal digits alone: the standard library would take a sign, too.
-fn decimal(digits: &str) -> Option<u64> {
-    Some(digits).filter(|digits| !digits.starts_with('+')).and_then(|digits| digits.parse().ok())
 }
 
 pub fn run(args: &Args) -> Result<ExitCode, Fault> {
@@ -116,73 +103,4 @@ fn named(args: &Args, name: &str) -> Result<String, Fault> {
     symbol(name).ok_or_else(|| {
         Fault::at(from, format!("the name '{name}' has a bar or a backslash, which SMT-LIB cannot write"))
     })
-}
-
-/// Pins that came from somewhere, if there are such nodes and the values fit them.
-fn fitting(problem: &Problem, from: &Path, pins: Vec<Pin>) -> Result<Vec<Pin>, Fault> {
-    for &(id, value) in &pins {
-        match problem.nodes.get(id) {
-            None => return Err(Fault::at(from, format!("there is no node {id} to pin"))),
-            Some(node) if value > ones(node.width) => {
-                return Err(Fault::at(
-                    from,
-                    format!("node {id} has {} bits, too few for {value}", node.width),
-                ));
-            }
-            Some(_) => {}
-        }
-    }
-    Ok(pins)
-}
-
-/// Every variable with its word of a file.
-fn start_pins(problem: &Problem, file: &Path) -> Result<Vec<Pin>, Fault> {
-    let words = read::start(file)?;
-    if words.len() < problem.nodes.len() {
-        return Err(Fault::at(file, format!("{} words for {} nodes", words.len(), problem.nodes.len())));
-    }
-    Ok(problem.variables().map(|id| (id, words[id])).collect())
-}
-
-/// The variables of an answer: its first line is a verdict, each further one `ID VALUE`; every variable
-/// is there once, in the order of ids, and nothing else.
-fn answer_pins(problem: &Problem, file: &Path) -> Result<Vec<Pin>, Fault> {
-    let text = read::text(file)?;
-    let mut lines = text.lines().enumerate();
-    let at = |number: usize, what: String| Fault::at(file, format!("line {}: {what}", number + 1));
-    match lines.next() {
-        Some((_, first)) if is_verdict(first) => {}
-        Some((_, first)) => return Err(at(0, format!("'{first}' is no verdict with its counts"))),
-        None => return Err(Fault::at(file, "no answer in it")),
-    }
-    let mut pins = Vec::new();
-    for id in problem.variables() {
-        let (number, line) =
-            lines.next().ok_or_else(|| Fault::at(file, format!("no value of variable {id}")))?;
-        match pin_of(line, ' ') {
-            Some((found, value)) if found == id => pins.push((id, value)),
-            Some((found, _)) => return Err(at(number, format!("node {found}, expected variable {id}"))),
-            None => return Err(at(number, format!("'{line}' is not 'ID VALUE'"))),
-        }
-    }
-    match lines.next() {
-        None => Ok(pins),
-        Some((number, line)) => Err(at(number, format!("'{line}' after the last variable"))),
-    }
-}
-
-/// `verdict NAME moves M steps S words W`, perhaps with ` evaluated E`
-fn is_verdict(line: &str) -> bool {
-    let number = |word: &str| decimal(word).is_some();
-    let words: Vec<&str> = line.split(' ').collect();
-    let counts = match words[..] {
-        [ref counts @ .., "evaluated", e] if number(e) => counts,
-        ref counts => counts,
-    };
-    match *counts {
-        ["verdict", name, "moves", m, "steps", s, "words", w] => {
-            ["model", "spent", "ended", "closed"].contains(&name) && number(m) && number(s) && number(w)
-        }
-        _ => false,
-    }
 }

@@ -2,6 +2,7 @@
 
 use crate::fault::Fault;
 use crate::files::{print, read};
+use crate::pins::placed;
 use crate::problem::decoded;
 use std::fmt::Write;
 use std::path::PathBuf;
@@ -11,7 +12,9 @@ use walumpeh::{Answer, Verdict};
 /// Run a problem from a start along a tape, and print what tvrun prints
 ///
 /// The answer's line, and a line 'ID VALUE' for each variable. Unlike tvrun it takes tapes of any
-/// length, a file that is missing is a fault, and the status tells the answer.
+/// length, a file that is missing is a fault, and the status tells the answer. With --from a run goes on
+/// where another one stopped:
+///     walumpeh run > answer.txt; walumpeh run --from answer.txt problem.tbv start.bin more.bin
 #[derive(clap::Args)]
 #[command(verbatim_doc_comment, after_help = STATUS)]
 pub struct Args {
@@ -30,6 +33,9 @@ pub struct Args {
     /// Tell at the end of the answer's line how many nodes were evaluated: ' evaluated E'
     #[arg(long)]
     evaluated: bool,
+    /// Go on from the values of an answer of run or tvrun, in place of the start
+    #[arg(long, value_name = "ANSWER")]
+    from: Option<PathBuf>,
 }
 
 const STATUS: &str = "\
@@ -38,14 +44,20 @@ Exit status: 0 model, 3 spent, 4 ended, 5 closed; 1 refused, or a file cannot be
 
 pub fn run(args: &Args) -> Result<ExitCode, Fault> {
     let problem = read::problem(&args.problem)?;
-    let mut values = read::start(&args.start)?;
+    let start = args.from.as_ref().unwrap_or(&args.start);
+    let mut values = match &args.from {
+        None => read::start(start)?,
+        // The run refuses what the check refuses, and says why.
+        Some(_) if walumpeh::check(&problem).is_err() => Vec::new(),
+        Some(_) => placed(&decoded(&problem).map_err(|fault| Fault::at(&args.problem, fault))?, start)?,
+    };
     let words = read::tape(&args.tape)?;
     let (first, tape) = words.split_first().unwrap_or((&0, &[]));
     let budget = args.budget.unwrap_or(*first as u16);
     match walumpeh::run(&problem, &mut values, tape, budget) {
         Err(refusal) => {
             print::text(&format!("refused {} at {}\n", refusal.number, refusal.place))?;
-            let at = if matches!(refusal.number, 14 | 15) { &args.start } else { &args.problem };
+            let at = if matches!(refusal.number, 14 | 15) { start } else { &args.problem };
             Err(Fault::at(at, refusal))
         }
         Ok(answer) => {

@@ -129,3 +129,40 @@ fn answers_must_be_whole() {
         at.fails("export two.tbv --answer bad", &format!("bad: {fault}"));
     }
 }
+
+/// A run that goes on from an answer is the rest of the run.
+#[test]
+fn a_run_goes_on_from_an_answer() {
+    let at = At::example("on");
+    at.write("none.txt", at.run("run --budget 0").stdout);
+    at.prints("run --from none.txt", "verdict model moves 1 steps 2 words 5\n0 11\n");
+    at.write("model.txt", at.printed("run"));
+    at.prints(
+        "run --from model.txt problem.tbv none start.bin",
+        "verdict model moves 0 steps 0 words 0\n0 11\n",
+    );
+    at.write("wide.txt", "verdict spent moves 0 steps 0 words 0\n0 16\n");
+    at.fails("run --from wide.txt", "wide.txt: node 0 has 4 bits, too few for 16");
+    at.write("short.txt", "verdict spent moves 0 steps 0 words 0\n");
+    at.fails("run --from short.txt", "short.txt: no value of variable 0");
+    at.fails("run --from missing.txt", "missing.txt: No such file or directory (os error 2)");
+    let mut wide = at.read("problem.tbv");
+    wide[9 + 24 * 2 + 1] = 65;
+    at.write("wide.tbv", &wide);
+    let why = "walumpeh: wide.tbv: refused 8 at 2: node 2: the width is 0 or over 64\n";
+    answers(&at, "run --from missing.txt wide.tbv", 1, "refused 8 at 2\n", why);
+}
+
+#[test]
+fn a_picture_has_the_values_of_an_answer() {
+    let at = At::example("picture");
+    let bare = at.printed("show problem.tbv --dot");
+    assert!(bare.starts_with("digraph problem {\n") && !bare.contains("= 11"), "{bare}");
+    at.write("answer.txt", at.printed("run"));
+    let picture = at.printed("show problem.tbv --dot --answer answer.txt");
+    assert!(picture.contains("\\n= 11\"") && !picture.contains("red"), "{picture}");
+    at.write("none.txt", at.run("run --budget 0").stdout);
+    assert!(at.printed("show problem.tbv --dot --answer none.txt").contains("color=red"));
+    at.fails("show problem.tbv --dot --answer missing", "missing: No such file or directory (os error 2)");
+    at.misunderstood("show problem.tbv --answer answer.txt", &["--dot"]);
+}

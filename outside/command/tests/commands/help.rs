@@ -36,10 +36,10 @@ fn every_command_has_help() {
         ("tape", ["--starts <K>", "[default: 95]"]),
         ("gather", ["--name <X>", "kept K repeats R unkept U"]),
         ("batch", ["--only <K>", "starts K model M spent S"]),
-        ("run", ["--evaluated", "3 spent, 4 ended, 5 closed"]),
+        ("run", ["--from <ANSWER>", "3 spent, 4 ended, 5 closed"]),
         ("export", ["--answer <FILE>", "--pin <ID=VALUE>"]),
         ("model", ["<NAMES>", "0 yes; 1 no; 2 nothing was judged"]),
-        ("show", ["fixed bits", "<=="]),
+        ("show", ["--dot", "<=="]),
         ("example", ["[default: .]", "0 11"]),
     ] {
         let help = at.printed(&format!("{command} --help"));
