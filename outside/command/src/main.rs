@@ -31,7 +31,7 @@ mod problem;
 mod progress;
 mod started;
 
-use clap::Parser;
+use clap::{CommandFactory, Parser};
 use commands::Command;
 use fault::Fault;
 use std::io::Write;
@@ -39,11 +39,14 @@ use std::process::ExitCode;
 
 /// Search for values that meet bit-vector conditions, by a proved local search
 #[derive(Parser)]
-#[command(name = "walumpeh", version, propagate_version = true, after_help = STATUS)]
+#[command(name = "walumpeh", version = VERSION, propagate_version = true, after_help = STATUS)]
 struct Line {
     #[command(subcommand)]
     command: Command,
 }
+
+/// The version, and the commit of command and library.
+const VERSION: &str = concat!(env!("CARGO_PKG_VERSION"), " (", env!("WALUMPEH_COMMIT"), ")");
 
 const STATUS: &str = "\
 Where a file is read or written, '-' is standard input or output.
@@ -55,7 +58,7 @@ fn main() -> ExitCode {
     let done = match Line::try_parse() {
         Ok(line) => {
             trouble = line.command.trouble();
-            line.command.run()
+            line.command.run(Line::command())
         }
         Err(error) if error.use_stderr() => {
             tell(&error.to_string());

@@ -3,10 +3,12 @@
 mod batch;
 mod build;
 mod check;
+mod completions;
 mod convert;
 mod example;
 mod export;
 mod gather;
+mod man;
 mod mend;
 mod model;
 mod need;
@@ -35,6 +37,8 @@ pub enum Command {
     Export(export::Args),
     Model(model::Args),
     Example(example::Args),
+    Completions(completions::Args),
+    Man(man::Args),
 }
 
 impl Command {
@@ -46,7 +50,8 @@ impl Command {
         }
     }
 
-    pub fn run(self) -> Result<ExitCode, Fault> {
+    /// Does it; `line` is what the command line may be.
+    pub fn run(self, line: clap::Command) -> Result<ExitCode, Fault> {
         match self {
             Command::Build(args) => build::run(&args),
             Command::Convert(args) => convert::run(&args),
@@ -62,6 +67,8 @@ impl Command {
             Command::Export(args) => export::run(&args),
             Command::Model(args) => model::run(&args),
             Command::Example(args) => example::run(&args),
+            Command::Completions(args) => completions::run(&args, line),
+            Command::Man(_) => man::run(line),
         }
     }
 }

@@ -2,9 +2,23 @@
 
 use crate::at::At;
 
-const COMMANDS: [&str; 14] = [
-    "build", "convert", "show", "check", "mend", "need", "tape", "run", "batch", "gather", "solve", "export",
-    "model", "example",
+const COMMANDS: [&str; 16] = [
+    "build",
+    "convert",
+    "show",
+    "check",
+    "mend",
+    "need",
+    "tape",
+    "run",
+    "batch",
+    "gather",
+    "solve",
+    "export",
+    "model",
+    "example",
+    "completions",
+    "man",
 ];
 
 #[test]
@@ -67,9 +81,38 @@ fn help_and_readme_have_all_sugar() {
 #[test]
 fn the_version_is_said() {
     let at = At::new("version");
-    at.prints("--version", concat!("walumpeh ", env!("CARGO_PKG_VERSION"), "\n"));
-    at.prints("-V", concat!("walumpeh ", env!("CARGO_PKG_VERSION"), "\n"));
-    at.prints("tape --version", concat!("walumpeh-tape ", env!("CARGO_PKG_VERSION"), "\n"));
+    let version = at.printed("--version");
+    assert!(version.starts_with(concat!("walumpeh ", env!("CARGO_PKG_VERSION"), " (")), "{version}");
+    at.prints("-V", &version);
+    at.prints("tape --version", &version.replace("walumpeh", "walumpeh-tape"));
+}
+
+/// The commit that is checked out, where there is one.
+#[test]
+fn the_version_names_the_commit() {
+    let at = At::new("commit");
+    let said = std::process::Command::new("git").args(["rev-parse", "--short=12", "HEAD"]).output();
+    let Some(said) = said.ok().filter(|said| said.status.success()) else {
+        return;
+    };
+    let commit = String::from_utf8(said.stdout).unwrap();
+    let version = at.printed("--version");
+    assert!(version.contains(commit.trim()), "{version}: not {commit}");
+}
+
+#[test]
+fn completions_and_manual_name_every_command() {
+    let at = At::new("completions");
+    let page = at.printed("man");
+    assert!(page.starts_with(".TH WALUMPEH 1 "), "{page}");
+    for command in COMMANDS {
+        assert!(page.contains(&format!(".SH {}\n", command.to_uppercase())), "{command}");
+        for shell in ["bash", "zsh", "fish"] {
+            assert!(at.printed(&format!("completions {shell}")).contains(command), "{shell}: {command}");
+        }
+    }
+    at.misunderstood("completions nonsense", &["nonsense", "bash"]);
+    at.misunderstood("completions", &["<SHELL>"]);
 }
 
 #[test]
