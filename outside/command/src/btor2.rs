@@ -27,3 +27,8 @@ fn refused(path: &Path, text: &[u8], refusal: LineRefusal) -> Fault {
 pub fn input_names(text: &[u8]) -> Vec<String> {
     btor2::names(text).iter().map(|name| String::from_utf8_lossy(name).into_owned()).collect()
 }
+
+/// The inputs' ids, in the same order.
+pub fn input_ids(text: &[u8]) -> Vec<String> {
+    btor2::ids(text).iter().map(|id| String::from_utf8_lossy(id).into_owned()).collect()
+}

@@ -102,7 +102,7 @@ fn json(given: &Given, outcome: &Outcome) -> String {
 }
 
 /// A text as JSON writes it.
-fn quoted(name: &str) -> String {
+pub fn quoted(name: &str) -> String {
     let mut text = String::from("\"");
     for character in name.chars() {
         match character {

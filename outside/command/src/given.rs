@@ -15,6 +15,8 @@ pub struct Given {
     pub bytes: Vec<u8>,
     pub problem: Problem,
     pub names: Vec<String>,
+    /// The numbers that these variables go by in the file: of BTOR2 their lines' ids, else their nodes' ids.
+    pub ids: Vec<String>,
 }
 
 #[derive(Clone, Copy, Debug, PartialEq, Eq)]
@@ -28,12 +30,15 @@ enum Sort {
 pub fn given(path: &Path, list: Option<&Path>) -> Result<Given, Fault> {
     let content = read::any(path)?;
     let at = |fault: String| Fault::at(path, fault);
-    let (bytes, names) = match sort(&content) {
-        Sort::Bytes => (content, Vec::new()),
-        Sort::Btor2 => (btor2::converted(path, &content)?, btor2::input_names(&content)),
+    let (bytes, names, ids) = match sort(&content) {
+        Sort::Bytes => (content, Vec::new(), None),
+        Sort::Btor2 => {
+            let bytes = btor2::converted(path, &content)?;
+            (bytes, btor2::input_names(&content), Some(btor2::input_ids(&content)))
+        }
         Sort::Form => {
             let (problem, names) = form::named(&read::utf8(path, content)?).map_err(at)?;
-            (problem.bytes(), names)
+            (problem.bytes(), names, None)
         }
     };
     walumpeh::check(&bytes).map_err(|refusal| Fault::at(path, refusal))?;
@@ -45,7 +50,8 @@ pub fn given(path: &Path, list: Option<&Path>) -> Result<Given, Fault> {
         Some(list) => names::read(list, &problem)?,
         None => different(&problem, &names),
     };
-    Ok(Given { bytes, problem, names })
+    let ids = ids.unwrap_or_else(|| problem.variables().map(|id| id.to_string()).collect());
+    Ok(Given { bytes, problem, names, ids })
 }
 
 /// What a file holds, by its first line that is not empty or a remark.

@@ -9,8 +9,10 @@
 //! | `draw`     | starts and tapes by chance                                |
 //! | `given`    | a problem from a file of any sort, with its inputs' names |
 //! | `btor2`    | what is read of BTOR2 beside the library's converter      |
+//! | `guided`   | what is asked of the guide                                |
 //! | `known`    | a known solution from a file                              |
 //! | `found`    | a model in the forms that it is printed in                |
+//! | `gathered` | kept solutions in the forms that they are written in      |
 //! | `progress` | the line on a terminal that tells how far it is           |
 //! | `names`    | lists of the variables' names                             |
 //! | `pins`     | values for nodes, from an answer or a start               |
@@ -23,7 +25,9 @@ mod draw;
 mod fault;
 mod files;
 mod found;
+mod gathered;
 mod given;
+mod guided;
 mod known;
 mod names;
 mod pins;

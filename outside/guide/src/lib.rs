@@ -13,12 +13,14 @@
 //! | `search` | a run: of some walks the best is made, again and again                          |
 //! | `solve`  | runs one after the other, on several threads                                    |
 //! | `linear` | goals as linear equations over bits, solved by elimination                     |
+//! | `many`   | a number of runs, whatever each finds                                           |
 //! | `chance` | numbers from a seed                                                             |
 
 pub mod advice;
 pub mod chance;
 pub mod goals;
 pub mod linear;
+pub mod many;
 pub mod nodes;
 pub mod search;
 pub mod solve;

@@ -29,6 +29,16 @@ pub struct Progress {
     pub fewest: AtomicU64,
 }
 
+impl Progress {
+    /// A run is done.
+    pub(crate) fn add(&self, run: &Run) {
+        self.runs.fetch_add(1, Ordering::Relaxed);
+        self.moves.fetch_add(run.moves, Ordering::Relaxed);
+        self.tried.fetch_add(run.tried, Ordering::Relaxed);
+        self.fewest.fetch_min(run.fewest as u64, Ordering::Relaxed);
+    }
+}
+
 /// A run with its number.
 pub struct Found {
     pub number: u64,
@@ -49,10 +59,7 @@ pub fn solve(ready: &Ready, asked: &Asked, progress: &Progress) -> Option<Found>
         // A run is given up where an earlier one has found a model.
         let stop = || number > first.load(Ordering::Relaxed) || late();
         let run = run(ready, &asked.manner, asked.seed, number, &stop);
-        progress.runs.fetch_add(1, Ordering::Relaxed);
-        progress.moves.fetch_add(run.moves, Ordering::Relaxed);
-        progress.tried.fetch_add(run.tried, Ordering::Relaxed);
-        progress.fewest.fetch_min(run.fewest as u64, Ordering::Relaxed);
+        progress.add(&run);
         if run.model {
             first.fetch_min(number, Ordering::Relaxed);
             let mut found = found.lock().expect("no thread panics with it");

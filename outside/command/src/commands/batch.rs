@@ -110,14 +110,16 @@ fn whole(shown: &[String], answers: &[Result<Answer, Refusal>]) -> String {
 
 /// The line that counts starts.
 pub fn counted(answers: &[Result<Answer, Refusal>]) -> String {
-    let mut text = format!("starts {}", answers.len());
-    for verdict in Verdict::ALL {
-        let count = answers.iter().filter(|answer| is(answer, verdict)).count();
-        write!(text, " {} {count}", verdict.name()).expect("text takes all");
-    }
+    let counts: Vec<String> = counts(answers).iter().map(|(name, count)| format!("{name} {count}")).collect();
+    counts.join(" ") + "\n"
+}
+
+/// How many starts there are, and how many of them have which answer.
+pub fn counts(answers: &[Result<Answer, Refusal>]) -> Vec<(&'static str, usize)> {
+    let verdicts = Verdict::ALL
+        .map(|verdict| (verdict.name(), answers.iter().filter(|answer| is(answer, verdict)).count()));
     let refused = answers.iter().filter(|answer| answer.is_err()).count();
-    writeln!(text, " refused {refused}").expect("text takes all");
-    text
+    [&[("starts", answers.len())], &verdicts[..], &[("refused", refused)]].concat()
 }
 
 fn is(answer: &Result<Answer, Refusal>, verdict: Verdict) -> bool {

@@ -1,6 +1,6 @@
 //! The subcommands: each module has its arguments and what it does with them.
 
-mod batch;
+pub mod batch;
 mod build;
 mod check;
 mod completions;

@@ -5,15 +5,16 @@ use crate::files::print;
 use crate::files::write::{self, Output};
 use crate::found::{shown, Format, Outcome};
 use crate::given::{given, Given};
+use crate::guided::{apart, ready, Guided};
 use crate::progress;
-use guide::solve::{solve, Asked, Found, Progress};
-use guide::{Manner, Ready, Run};
+use guide::solve::{solve, Found, Progress};
+use guide::Run;
 use model::files::{bytes_of, tape_file};
 use std::path::{Path, PathBuf};
 use std::process::ExitCode;
 use std::sync::atomic::Ordering;
-use std::time::{Duration, Instant};
-use walumpeh::{Answer, Verdict};
+use std::time::Instant;
+use walumpeh::Answer;
 
 /// Look for a model of a problem: an unproved guide writes the tape, the proved run judges
 ///
@@ -29,25 +30,11 @@ use walumpeh::{Answer, Verdict};
 pub struct Args {
     /// BTOR2, problem bytes or text
     file: PathBuf,
-    /// The same seed finds the same model
-    #[arg(long, default_value_t = 1)]
-    seed: u64,
     /// The most runs; as many as the time allows where none are asked for
     #[arg(long)]
     runs: Option<u64>,
-    /// The most moves of a run
-    #[arg(long, default_value_t = Manner::USUAL.budget)]
-    budget: u16,
-    /// The most seconds; 0 sets no limit
-    #[arg(long, default_value_t = 60.0, value_name = "SECONDS", value_parser = seconds)]
-    time: f64,
-    /// How many threads; as many as there are processors where none are asked for
-    #[arg(long, value_name = "THREADS", value_parser = clap::value_parser!(u16).range(1..=1024))]
-    jobs: Option<u16>,
-    /// Of a hundred steps, how many ask for the inverse set; a quotient, another branch's value and steps to a model that
-    /// linear equations gave never do
-    #[arg(long, default_value_t = (Manner::USUAL.drawing.inverse / 10) as u8, value_name = "PERCENT", value_parser = clap::value_parser!(u8).range(0..=100))]
-    inverse: u8,
+    #[command(flatten)]
+    guided: Guided,
     /// Write the tape that led to the model to a file, as run takes it
     #[arg(long, value_name = "FILE")]
     tape: Option<PathBuf>,
@@ -66,26 +53,17 @@ const STATUS: &str = "\
 Exit status, as of SAT solvers: 10 a model, 20 closed (a root is 0 whatever the values), 0 none found; 1 refused, or
 a file cannot be read or written, or the proved run's answer is not the guide's; 2 the command line is not understood.";
 
-fn seconds(text: &str) -> Result<f64, String> {
-    match text.parse() {
-        Ok(seconds) if (0.0..=1e9).contains(&seconds) => Ok(seconds),
-        _ => Err("not a number of seconds".into()),
-    }
-}
-
 pub fn run(args: &Args) -> Result<ExitCode, Fault> {
     let begun = Instant::now();
     let given = given(&args.file, args.names.as_deref())?;
-    let at = |fault: String| Fault::at(&args.file, fault);
-    let ready = ready(&given.bytes).map_err(at)?;
-    let is_closed = closed(&given).map_err(at)?;
-    same(ready.closed, is_closed).map_err(at)?;
-    if is_closed {
+    let ready = ready(&args.file, &given)?;
+    if ready.closed {
         print::text(&shown(args.format, &given, &Outcome::Closed)?)?;
         return Ok(ExitCode::from(20));
     }
+    let asked = args.guided.asked(args.runs.unwrap_or(u64::MAX), begun);
     let progress = Progress::default();
-    match progress::shown(&progress, || solve(&ready, &asked(args, begun), &progress)) {
+    match progress::shown(&progress, || solve(&ready, &asked, &progress)) {
         Some(found) => model(args, &given, &found),
         None => {
             let [runs, moves, fewest] = [&progress.runs, &progress.moves, &progress.fewest]
@@ -94,43 +72,6 @@ pub fn run(args: &Args) -> Result<ExitCode, Fault> {
             print::text(&shown(args.format, &given, &Outcome::NotFound { runs, moves, fewest })?)
         }
     }
-}
-
-fn asked(args: &Args, begun: Instant) -> Asked {
-    let mut manner = Manner { budget: args.budget, ..Manner::USUAL };
-    if args.inverse != (Manner::USUAL.drawing.inverse / 10) as u8 {
-        manner.drawing.inverse = 10 * u32::from(args.inverse);
-    }
-    let processors = || std::thread::available_parallelism().map_or(1, usize::from);
-    Asked {
-        seed: args.seed,
-        runs: args.runs.unwrap_or(u64::MAX),
-        until: (args.time > 0.0).then(|| begun + Duration::from_secs_f64(args.time)),
-        threads: args.jobs.map_or_else(processors, usize::from),
-        manner,
-    }
-}
-
-/// What the guide works on. The problem is accepted, so that it must take it.
-fn ready(bytes: &[u8]) -> Result<Ready, String> {
-    Ready::new(bytes).map_err(|refusal| apart(format!("refused {}", refusal.number), "accepted"))
-}
-
-/// Whether a problem is closed, which the guide must see as the proved run does.
-fn same(guide: bool, run: bool) -> Result<(), String> {
-    let said = |closed: bool| if closed { "closed" } else { "not closed" };
-    if guide == run {
-        Ok(())
-    } else {
-        Err(apart(said(guide), said(run)))
-    }
-}
-
-/// What the proved run says before any move: whether a root is 0 whatever the values.
-fn closed(given: &Given) -> Result<bool, String> {
-    let mut values: Vec<u64> = given.problem.nodes.iter().map(|node| node.pair.lo).collect();
-    let answer = walumpeh::run(&given.bytes, &mut values, &[], 0).map_err(|refusal| refusal.to_string())?;
-    Ok(answer.verdict == Verdict::Closed)
 }
 
 /// Has the proved run make the guide's moves, and prints the model if it says so.
@@ -167,14 +108,10 @@ fn judged(bytes: &[u8], run: &Run, values: &mut [u64]) -> Result<Answer, String>
     }
 }
 
-/// Where the guide and the proved run differ, the guide is wrong, and nobody should take its word.
-fn apart(guide: impl std::fmt::Display, run: impl std::fmt::Display) -> String {
-    format!("the guide says '{guide}' and the proved run '{run}': the guide is wrong")
-}
-
 #[cfg(test)]
 mod tests {
     use super::*;
+    use guide::{Manner, Ready};
 
     /// A guide that writes another tape than it says is caught.
     #[test]
@@ -195,16 +132,5 @@ mod tests {
         assert!(wrong(|run| run.values[0] ^= 8).contains("with other values"));
         assert!(wrong(|run| run.start[0] = 16).contains("refused 15 at 0"));
         assert!(wrong(|run| run.moves -= 1).contains("'spent moves 0 steps 0 words 0'"));
-    }
-
-    /// So is one that refuses what the library accepts, or sees a closed problem otherwise.
-    #[test]
-    fn a_guide_that_sees_another_problem_is_caught() {
-        let wrong = "and the proved run 'accepted': the guide is wrong";
-        assert!(ready(b"TBV").is_err_and(|fault| fault == format!("the guide says 'refused 1' {wrong}")));
-        assert!(ready(&text::worked_example().bytes()).is_ok());
-        let expected = "the guide says 'closed' and the proved run 'not closed': the guide is wrong";
-        assert_eq!(same(true, false), Err(expected.into()));
-        assert!(same(false, true).is_err() && same(true, true).is_ok() && same(false, false).is_ok());
     }
 }

@@ -27,8 +27,7 @@ pub fn convert(text: &[u8], room: usize) -> Result<Problem, Fault> {
 /// The inputs' names of a text that is converted, in the order of their lines: the symbol; or the id of one that has
 /// none, or whose symbol is a number or another input's too. So all are different, also without bars.
 pub fn names(text: &[u8]) -> Vec<Vec<u8>> {
-    let lines = text.split(|&byte| byte == b'\n').filter_map(|text| line(text).ok().flatten());
-    let inputs: Vec<Line> = lines.filter(|line| line.keyword == "input").collect();
+    let inputs = inputs(text);
     let mut symbols: HashMap<&[u8], usize> = HashMap::new();
     for symbol in inputs.iter().filter_map(|line| line.symbol) {
         *symbols.entry(without_bars(symbol)).or_default() += 1;
@@ -38,6 +37,16 @@ pub fn names(text: &[u8]) -> Vec<Vec<u8>> {
         symbols[inside] == 1 && !inside.iter().all(u8::is_ascii_digit)
     };
     inputs.iter().map(|line| line.symbol.filter(fits).unwrap_or(line.id).to_vec()).collect()
+}
+
+/// The inputs' ids, in the order of their lines.
+pub fn ids(text: &[u8]) -> Vec<Vec<u8>> {
+    inputs(text).iter().map(|line| line.id.to_vec()).collect()
+}
+
+fn inputs(text: &[u8]) -> Vec<Line<'_>> {
+    let lines = text.split(|&byte| byte == b'\n').filter_map(|text| line(text).ok().flatten());
+    lines.filter(|line| line.keyword == "input").collect()
 }
 
 fn without_bars(symbol: &[u8]) -> &[u8] {

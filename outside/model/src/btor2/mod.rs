@@ -10,6 +10,6 @@ mod convert;
 mod lines;
 mod meaning;
 
-pub use convert::{convert, names};
+pub use convert::{convert, ids, names};
 pub use lines::{keywords, Fault};
 pub use meaning::{mean, Meaning};
