@@ -81,7 +81,9 @@ fn main() -> ExitCode {
     }
 }
 
-/// Says something on standard error; where that cannot be, the status still tells.
+/// Says something on standard error; where that cannot be, the status still tells. What was read may hold anything, and none of
+/// it is to reach a terminal as a command.
 fn tell(words: &str) {
-    let _ = std::io::stderr().write_all(words.as_bytes());
+    let shown = |c: char| if c.is_control() && c != '\n' { char::REPLACEMENT_CHARACTER } else { c };
+    let _ = std::io::stderr().write_all(words.chars().map(shown).collect::<String>().as_bytes());
 }

@@ -20,6 +20,9 @@ use walumpeh::{Answer, Refusal, Verdict};
 ///     starts K model M spent S ended E closed C refused R
 /// The problem is checked once; answers and values are those of single runs. 'walumpeh tape --starts' makes
 /// the two files.
+///
+/// Example:
+///     walumpeh tape problem.tbv --starts 100; walumpeh batch | tail -n 1
 #[derive(clap::Args)]
 #[command(verbatim_doc_comment, after_help = STATUS)]
 pub struct Args {

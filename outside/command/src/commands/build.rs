@@ -9,8 +9,11 @@ use std::process::ExitCode;
 use text::form;
 
 /// Make a problem file from a text, a line for each node
+///
+/// Example:
+///     walumpeh build sum.txt problem.tbv --names names.txt
 #[derive(clap::Args)]
-#[command(after_help = FORM)]
+#[command(verbatim_doc_comment, after_help = FORM)]
 pub struct Args {
     /// The text
     text: PathBuf,

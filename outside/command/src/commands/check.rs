@@ -6,7 +6,11 @@ use std::path::PathBuf;
 use std::process::ExitCode;
 
 /// Say whether a problem file is accepted, or the refusal's number, place and meaning
+///
+/// Example:
+///     walumpeh check problem.tbv
 #[derive(clap::Args)]
+#[command(verbatim_doc_comment)]
 pub struct Args {
     /// The problem file
     problem: PathBuf,

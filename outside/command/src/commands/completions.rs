@@ -8,7 +8,8 @@ use std::process::ExitCode;
 
 /// Print a shell's completions of this command
 ///
-///     walumpeh completions bash > ~/.local/share/bash-completion/completions/walumpeh
+/// Example:
+///     walumpeh completions bash > walumpeh.bash; . ./walumpeh.bash
 #[derive(clap::Args)]
 #[command(verbatim_doc_comment)]
 pub struct Args {

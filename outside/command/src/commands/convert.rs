@@ -15,6 +15,9 @@ use std::process::ExitCode;
 ///     IN:LINE: refused NUMBER: what is wrong
 /// 1 not a line of the format; 2 a keyword outside the list; 3 an id that does not increase or is not
 /// defined; 4 sorts or widths that do not fit, or a value too wide; 5 more than 1,024 nodes or 256 roots.
+///
+/// Example:
+///     walumpeh convert frame.btor frame.tbv --names inputs.txt
 #[derive(clap::Args)]
 #[command(verbatim_doc_comment, after_help = LIST)]
 pub struct Args {

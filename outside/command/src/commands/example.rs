@@ -11,6 +11,9 @@ use std::process::ExitCode;
 /// problem.tbv, start.bin and tape.bin. walumpeh run and tvrun then print
 ///     verdict model moves 1 steps 2 words 5
 ///     0 11
+///
+/// Example:
+///     walumpeh example; walumpeh run
 #[derive(clap::Args)]
 #[command(verbatim_doc_comment)]
 pub struct Args {

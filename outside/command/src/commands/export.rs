@@ -21,6 +21,9 @@ use text::smt2::{model, nodes, pin, symbol, values, Variables};
 /// the solver's answer:
 ///     walumpeh export problem.tbv --model --write-names names.txt | z3 -in > answer.txt
 ///     walumpeh model problem.tbv names.txt answer.txt
+///
+/// Example:
+///     walumpeh run | walumpeh export problem.tbv --answer - > confirm.smt2
 #[derive(clap::Args)]
 #[command(verbatim_doc_comment)]
 pub struct Args {

@@ -7,7 +7,8 @@ use std::process::ExitCode;
 
 /// Print the manual page of this command
 ///
-///     walumpeh man > walumpeh.1; man ./walumpeh.1
+/// Example:
+///     walumpeh man > walumpeh.1
 #[derive(clap::Args)]
 #[command(verbatim_doc_comment)]
 pub struct Args {}

@@ -16,6 +16,9 @@ use std::process::ExitCode;
 ///
 /// What cannot be mended is refused, with the number, the place and its meaning; a node's place is its id in the
 /// file that was read. Nothing is written then.
+///
+/// Example:
+///     walumpeh mend shuffled.tbv mended.tbv --map map.bin
 #[derive(clap::Args)]
 #[command(verbatim_doc_comment)]
 pub struct Args {

@@ -17,6 +17,9 @@ use walumpeh::{Judged, Place, Refusal};
 /// The list has a name for each variable, by ascending id, one a line (build --names writes it, and export
 /// --write-names). The answer is what a solver prints for get-model in SMT-LIB syntax; a first line 'sat' is
 /// passed over.
+///
+/// Example:
+///     walumpeh model problem.tbv names.txt answer.txt
 #[derive(clap::Args)]
 #[command(verbatim_doc_comment, after_help = STATUS)]
 pub struct Args {

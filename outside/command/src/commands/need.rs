@@ -14,6 +14,9 @@ use std::process::ExitCode;
 /// where H is the longest chain of operand links under any root and W is B x (1 + 2H): a move takes a
 /// word, and two for each of its steps, which are never more than H. This holds for every start and for
 /// smaller budgets.
+///
+/// Example:
+///     walumpeh need problem.tbv --budget 100
 #[derive(clap::Args)]
 #[command(verbatim_doc_comment)]
 pub struct Args {

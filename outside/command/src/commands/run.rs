@@ -15,6 +15,9 @@ use walumpeh::{Answer, Verdict};
 /// length, a file that is missing is a fault, and the status tells the answer. With --from a run goes on
 /// where another one stopped:
 ///     walumpeh run > answer.txt; walumpeh run --from answer.txt problem.tbv start.bin more.bin
+///
+/// Example:
+///     walumpeh run problem.tbv start.bin tape.bin
 #[derive(clap::Args)]
 #[command(verbatim_doc_comment, after_help = STATUS)]
 pub struct Args {

@@ -17,6 +17,9 @@ use text::{dot, shown};
 ///     walumpeh show problem.tbv --dot --answer answer.txt | dot -Tsvg > problem.svg
 /// Roots have a double line. Given an answer, each node tells its value, and a root that is not 1 stands
 /// out in red, with the ways down from it that a move could take.
+///
+/// Example:
+///     walumpeh show problem.tbv
 #[derive(clap::Args)]
 #[command(verbatim_doc_comment)]
 pub struct Args {

@@ -25,6 +25,9 @@ use walumpeh::Answer;
 /// A run begins at a start of its own and makes so many moves at most; runs follow until one finds a model, or their
 /// number or the time is used up. All comes from the seed. More threads are sooner done and find the same, unless
 /// the time ends them.
+///
+/// Example:
+///     walumpeh solve sum.txt --start start.bin --tape tape.bin
 #[derive(clap::Args)]
 #[command(verbatim_doc_comment, after_help = STATUS)]
 pub struct Args {

@@ -30,6 +30,9 @@ use walumpeh::Verdict;
 ///     differing variables D
 ///     words W of at most D x (1 + 2H)
 /// The solution is a get-model answer of another solver, what run or solve printed, or a word for each node.
+///
+/// Example:
+///     walumpeh tape problem.tbv --seed 7; walumpeh run
 #[derive(clap::Args)]
 #[command(verbatim_doc_comment)]
 pub struct Args {

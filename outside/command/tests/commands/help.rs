@@ -1,8 +1,9 @@
 //! Help, version, and lines that are not understood.
 
-use crate::at::At;
+use crate::at::{text, At, WALUMPEH};
+use std::process::Command;
 
-const COMMANDS: [&str; 16] = [
+pub const COMMANDS: [&str; 16] = [
     "build",
     "convert",
     "show",
@@ -58,6 +59,40 @@ fn every_command_has_help() {
     ] {
         let help = at.printed(&format!("{command} --help"));
         assert!(words.iter().all(|word| help.contains(word)), "{help}");
+    }
+}
+
+/// The help of every command has an example, and each example runs as it stands.
+#[test]
+fn every_example_in_help_runs() {
+    let at = At::example("help-examples");
+    let top = std::path::Path::new(env!("CARGO_MANIFEST_DIR")).join("../..");
+    for (name, from) in [
+        ("sum.txt", "outside/tour/sum.txt"),
+        ("shuffled.tbv", "outside/tour/shuffled.tbv"),
+        ("frame.btor", "examples/btor2/frame.btor"),
+    ] {
+        std::fs::copy(top.join(from), at.path(name)).unwrap();
+    }
+    let folder = std::path::Path::new(WALUMPEH).parent().unwrap().display();
+    for command in COMMANDS {
+        // Each finds the files as they were.
+        at.prints("example", "");
+        at.write("names.txt", "x\n");
+        at.write("answer.txt", "sat\n((define-fun x () (_ BitVec 4) #xb))\n");
+        let help = at.printed(&format!("{command} --help"));
+        let examples = help.split_once("Example:\n").map(|(_, rest)| rest.lines()).into_iter().flatten();
+        let examples: Vec<&str> =
+            examples.map_while(|line| line.strip_prefix("    ")).filter(|line| !line.is_empty()).collect();
+        assert!(examples.iter().any(|line| line.contains(&format!("walumpeh {command}"))), "{help}");
+        for line in examples {
+            let script = format!("PATH={folder}:$PATH; set -e; {line}");
+            let output = Command::new("bash").args(["-c", &script]).current_dir(&at.folder).output().unwrap();
+            let status = output.status.code();
+            // Of solve 10 says that there is a model.
+            assert!(matches!(status, Some(0 | 10)), "{line}: {status:?} {}", text(&output.stderr));
+            assert!(output.stderr.is_empty(), "{line}: {}", text(&output.stderr));
+        }
     }
 }
 

@@ -3,6 +3,7 @@
 
 mod answers;
 mod at;
+mod bad_input;
 mod batches;
 mod convert;
 mod faults;

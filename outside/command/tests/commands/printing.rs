@@ -3,15 +3,24 @@
 use crate::at::{text, At, WALUMPEH};
 use std::process::{Command, Output};
 
-const PRINTING: [&str; 10] = [
+const PRINTING: [&str; 19] = [
     "show problem.tbv",
+    "show problem.tbv --dot --answer answer.txt",
     "check problem.tbv",
     "need problem.tbv",
     "run",
+    "run --from answer.txt",
     "batch",
+    "tape problem.tbv --to answer.txt",
     "gather problem.tbv --name 0",
+    "gather problem.tbv --name 0 --json --vcd new.vcd",
+    "gather problem.tbv --name 0 --readmemh -",
+    "solve problem.tbv",
     "export problem.tbv",
     "export problem.tbv --model",
+    "build sum.txt -",
+    "completions bash",
+    "man",
     "--help",
     "tape --help",
 ];
@@ -20,6 +29,8 @@ const PRINTING: [&str; 10] = [
 fn folder(name: &str) -> At {
     let at = At::example(name);
     at.prints("tape problem.tbv --starts 2", "");
+    at.write("answer.txt", at.printed("run"));
+    at.write("sum.txt", "x = var 4\ny = not x\nok = below x y\nroot ok\n");
     at
 }
 
@@ -37,6 +48,7 @@ fn a_closed_standard_output_is_noticed() {
         let found = (output.status.code(), text(&output.stderr));
         assert_eq!(found, (Some(1), "walumpeh: standard output: closed\n".into()), "{line}");
     }
+    assert!(!at.path("new.vcd").exists());
     let quiet = sent(&at, "tape problem.tbv", ">&-");
     assert_eq!((quiet.status.code(), text(&quiet.stderr).as_str()), (Some(0), ""));
 }
