@@ -50,7 +50,10 @@ struct Line {
 }
 
 /// The version, and the commit of command and library.
-const VERSION: &str = concat!(env!("CARGO_PKG_VERSION"), " (", env!("WALUMPEH_COMMIT"), ")");
+const VERSION: &str = match walumpeh::PROVED {
+    true => concat!(env!("CARGO_PKG_VERSION"), " (", env!("WALUMPEH_COMMIT"), ")"),
+    false => concat!(env!("CARGO_PKG_VERSION"), " (", env!("WALUMPEH_COMMIT"), ", on the unproved stub)"),
+};
 
 const STATUS: &str = "\
 Where a file is read or written, '-' is standard input or output.

@@ -11,6 +11,9 @@ mod refusal;
 
 pub use refusal::{LineRefusal, Place, Refusal};
 
+/// Whether the calls are the proved library's, and not the unproved stand-in's.
+pub const PROVED: bool = !cfg!(feature = "stub");
+
 #[derive(Clone, Copy, Debug, PartialEq, Eq)]
 pub enum Verdict {
     /// Every root is 1.

@@ -133,6 +133,7 @@ fn the_version_names_the_commit() {
     let commit = String::from_utf8(said.stdout).unwrap();
     let version = at.printed("--version");
     assert!(version.contains(commit.trim()), "{version}: not {commit}");
+    assert_eq!(version.contains("unproved"), !walumpeh::PROVED);
 }
 
 #[test]

@@ -108,27 +108,42 @@ fn what_is_closed_or_not_found() {
 fn a_terminal_sees_how_far_it_is() {
     let at = At::new("terminal");
     at.write("odd.txt", ODD);
+    for (line, printed) in [
+        ("solve odd.txt --time 1 --jobs 1", "not found runs "),
+        (
+            "gather odd.txt --name x --time 1 --jobs 1 --budget 65535",
+            "x\nkept 0 repeats 0 unkept 0\nstarts 256 ",
+        ),
+    ] {
+        let (mut seen, terminal) = terminal();
+        let mut command = at.command(line);
+        command.env("TERM", "xterm").stderr(terminal).stdout(Stdio::piped());
+        let child = command.spawn().unwrap();
+        // The terminal ends, with an error, where nobody holds its other side any more.
+        drop(command);
+        let mut lines = Vec::new();
+        let _ = seen.read_to_end(&mut lines);
+        let output = child.wait_with_output().unwrap();
+        let lines = String::from_utf8_lossy(&lines);
+        assert!(
+            lines.contains(" runs, ") && lines.contains("moves/s, fewest unsatisfied roots "),
+            "{line}: {lines}"
+        );
+        assert!(text(&output.stdout).starts_with(printed), "{line}: {}", text(&output.stdout));
+        // In a pipe nothing is said, for as long.
+        assert!(at.run(line).stderr.is_empty(), "{line}");
+    }
+}
+
+/// A terminal's two sides: what is seen on it, and what a program holds.
+fn terminal() -> (File, File) {
     let (mut ours, mut theirs) = (0, 0);
     // SAFETY: the call writes the two numbers of open files, and is given nothing else.
-    let (mut seen, terminal) = unsafe {
+    unsafe {
         let none = (std::ptr::null_mut(), std::ptr::null(), std::ptr::null());
         assert_eq!(libc::openpty(&mut ours, &mut theirs, none.0, none.1, none.2), 0);
         (File::from_raw_fd(ours), File::from_raw_fd(theirs))
-    };
-    let mut command = at.command("solve odd.txt --time 0.6 --jobs 1");
-    command.env("TERM", "xterm").stderr(terminal).stdout(Stdio::piped());
-    let child = command.spawn().unwrap();
-    // The terminal ends, with an error, where nobody holds its other side any more.
-    drop(command);
-    let mut lines = Vec::new();
-    let _ = seen.read_to_end(&mut lines);
-    let output = child.wait_with_output().unwrap();
-    let lines = String::from_utf8_lossy(&lines);
-    assert!(lines.contains(" runs, ") && lines.contains("moves/s, fewest unsatisfied roots 1"), "{lines}");
-    assert!(lines.ends_with("\r\x1b[K"), "{lines:?}");
-    assert!(text(&output.stdout).starts_with("not found runs "));
-    // In a pipe nothing is said, for as long.
-    assert!(ends(&at, "solve odd.txt --time 0.6 --jobs 1", 0).starts_with("not found runs "));
+    }
 }
 
 /// The words e of the tape ask for the inverse set as often as it is asked for.
