@@ -1,14 +1,16 @@
-//! Starts and tapes by chance: what `tape` writes, and `gather` runs.
+//! Starts and tapes by chance: what `tape` writes.
 
 use crate::fault::Fault;
 use crate::files::tapes::Tapes;
 use crate::problem::Accepted;
+use crate::progress;
 use generate::tape::{drawn, Drawn, Manner, Proposals};
 use model::run::Search;
 use model::{Kind, Node};
 use rand_chacha::rand_core::{RngCore, SeedableRng};
 use rand_chacha::ChaCha8Rng;
 use std::path::Path;
+use std::sync::atomic::{AtomicU64, Ordering};
 
 /// How starts and tapes are drawn.
 #[derive(clap::Args)]
@@ -66,14 +68,17 @@ impl Draw {
 
     /// So many starts, one after the other, and for each the words that a run from it asks for, at most so many.
     pub fn many(&self, problem: &Accepted, count: u16, most: usize) -> Result<(Vec<u64>, Tapes), String> {
-        let mut chance = self.chance();
+        let (mut chance, drawn) = (self.chance(), AtomicU64::new(0));
         let (mut starts, mut tapes) = (Vec::new(), Tapes::default());
-        for _ in 0..count {
-            let (start, words) = self.start_and_words(problem, &mut chance, most)?;
-            starts.extend(start);
-            tapes.push(&words, self.budget);
-        }
-        Ok((starts, tapes))
+        progress::shown(progress::count(&drawn, count.into(), "starts drawn"), || {
+            for _ in 0..count {
+                let (start, words) = self.start_and_words(problem, &mut chance, most)?;
+                starts.extend(start);
+                tapes.push(&words, self.budget);
+                drawn.fetch_add(1, Ordering::Relaxed);
+            }
+            Ok((starts, tapes))
+        })
     }
 }
 

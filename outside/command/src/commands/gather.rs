@@ -104,7 +104,7 @@ fn guided(args: &Args, given: &Given, ready: &Ready, begun: Instant) -> Vec<Run>
         return vec![Run { start, ..Run::default() }; count as usize];
     }
     let (asked, progress) = (args.guided.asked(count, begun), Progress::default());
-    progress::shown(&progress, || many(ready, &asked, &progress))
+    progress::shown(progress::search(&progress), || many(ready, &asked, &progress))
 }
 
 /// Starts and tapes as the bench takes them.

@@ -66,7 +66,7 @@ pub fn run(args: &Args) -> Result<ExitCode, Fault> {
     }
     let asked = args.guided.asked(args.runs.unwrap_or(u64::MAX), begun);
     let progress = Progress::default();
-    match progress::shown(&progress, || solve(&ready, &asked, &progress)) {
+    match progress::shown(progress::search(&progress), || solve(&ready, &asked, &progress)) {
         Some(found) => model(args, &given, &found),
         None => {
             let [runs, moves, fewest] = [&progress.runs, &progress.moves, &progress.fewest]

@@ -108,12 +108,18 @@ fn what_is_closed_or_not_found() {
 fn a_terminal_sees_how_far_it_is() {
     let at = At::new("terminal");
     at.write("odd.txt", ODD);
-    for (line, printed) in [
-        ("solve odd.txt --time 1 --jobs 1", "not found runs "),
-        (
-            "gather odd.txt --name x --time 1 --jobs 1 --budget 65535",
-            "x\nkept 0 repeats 0 unkept 0\nstarts 256 ",
-        ),
+    // Evaluating so many nodes takes its time.
+    at.write(
+        "wide.txt",
+        ODD.to_string() + &(0..900).map(|at| format!("n{at} = not x\n")).collect::<String>(),
+    );
+    at.prints("build wide.txt wide.tbv", "");
+    let search = [" runs, ", "moves/s, fewest unsatisfied roots "];
+    let nothing = "x\nkept 0 repeats 0 unkept 0\nstarts 256 ";
+    for (line, words, printed) in [
+        ("solve odd.txt --time 1 --jobs 1", search, "not found runs "),
+        ("gather odd.txt --name x --time 1 --jobs 1 --budget 65535", search, nothing),
+        ("tape wide.tbv --starts 256 --budget 400", [" of 256 ", "starts drawn"], ""),
     ] {
         let (mut seen, terminal) = terminal();
         let mut command = at.command(line);
@@ -125,10 +131,7 @@ fn a_terminal_sees_how_far_it_is() {
         let _ = seen.read_to_end(&mut lines);
         let output = child.wait_with_output().unwrap();
         let lines = String::from_utf8_lossy(&lines);
-        assert!(
-            lines.contains(" runs, ") && lines.contains("moves/s, fewest unsatisfied roots "),
-            "{line}: {lines}"
-        );
+        assert!(words.iter().all(|word| lines.contains(word)), "{line}: {lines}");
         assert!(text(&output.stdout).starts_with(printed), "{line}: {}", text(&output.stdout));
         // In a pipe nothing is said, for as long.
         assert!(at.run(line).stderr.is_empty(), "{line}");
