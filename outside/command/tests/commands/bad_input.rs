@@ -8,6 +8,7 @@ use std::os::unix::fs::PermissionsExt;
 use std::os::unix::process::CommandExt;
 use std::path::{Path, PathBuf};
 use std::process::{Command, Stdio};
+use std::sync::OnceLock;
 
 /// Lines that read a file IN, and what is wrong with the files that it stands for. A tape of any words and length is good,
 /// and zeros are a start.
@@ -160,6 +161,14 @@ impl Open {
 
 const NOBODY: u32 = 65534;
 
+/// Whether a program can be run without privileges: where root is the only user that there is, as in some containers, not.
+fn can_be_nobody() -> bool {
+    static CAN: OnceLock<bool> = OnceLock::new();
+    // SAFETY: the call takes nothing and cannot fail.
+    let is_root = unsafe { libc::geteuid() } == 0;
+    !is_root || *CAN.get_or_init(|| Command::new("true").uid(NOBODY).gid(NOBODY).status().is_ok())
+}
+
 impl Drop for Open {
     fn drop(&mut self) {
         let _ = std::fs::remove_dir_all(self.at.folder.parent().expect("it has one"));
@@ -169,7 +178,7 @@ impl Drop for Open {
 /// Runs a line for each bad file in the place of a word, and tells what is said.
 fn told(open: &Open, line: &str, word: &str, bad: &[&str]) -> String {
     let mut rows = format!("{line}\n");
-    for name in bad {
+    for name in bad.iter().filter(|name| can_be_nobody() || !name.starts_with("un")) {
         let before = open.sizes();
         let line =
             line.split(' ').map(|part| if part == word { name } else { part }).collect::<Vec<_>>().join(" ");
@@ -186,7 +195,9 @@ fn bad_input_of_every_kind_is_told() {
     let reading: String = READING.iter().map(|(line, bad)| told(&open, line, "IN", bad)).collect();
     let writing: String = WRITING.iter().map(|(line, bad)| told(&open, line, "OUT", bad)).collect();
     let found = reading + &writing;
-    let expected = include_str!("bad_input.txt");
+    let known =
+        include_str!("bad_input.txt").lines().filter(|row| can_be_nobody() || !row.starts_with("    un"));
+    let expected: String = known.flat_map(|row| [row, "\n"]).collect();
     if found != expected {
         let at = At::new("bad-input");
         at.write("bad_input.txt", &found);
