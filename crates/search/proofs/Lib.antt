@@ -5,4 +5,3 @@ pub mod Places
 pub mod Turns
 pub mod Runs
 pub mod Many
-pub mod Links

@@ -5,8 +5,6 @@ pub mod Call
 pub mod Answers
 pub mod Batch
 pub mod Reach
-pub mod Steps
-pub mod Needed
 pub mod Passing
 pub mod inner
 pub mod promises

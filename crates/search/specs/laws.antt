@@ -6,7 +6,6 @@ pub mod Found
 pub mod Lead
 pub mod More
 pub mod Moves
-pub mod Need
 pub mod Parts
 pub mod Runs
 pub mod Starts

@@ -4,4 +4,3 @@ pub mod Batch
 pub mod Demands
 pub mod Determined
 pub mod More
-pub mod Need

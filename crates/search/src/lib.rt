@@ -4,13 +4,11 @@ ghost use Prim.Native.Nat.{_+_, _*_};
 ghost use Rattle.evaluation.specs.inner.Readers.{Indexed};
 ghost use Rattle.search.specs.Run.{answer};
 ghost use Rattle.search.specs.Call.{refused, Called};
-ghost use Rattle.search.specs.Needed.{Needed};
 ghost use Rattle.search.specs.inner.Run.{Searching, Searched, Lent};
 ghost use Rattle.search.specs.inner.Batch.{Unprepared, Prepared};
 
 mod answers;
 mod batches;
-mod heights;
 mod moves;
 mod roots;
 mod starts;
@@ -25,14 +23,10 @@ pub use batches::run_starts;
 use evaluation::evaluate;
 use evaluation::fill;
 use evaluation::index_readers;
-use heights::fill_heights;
-use heights::longest_chain;
-use heights::words_for;
 use moves::Turn;
 use moves::finish_move;
 use problem::Checked;
 use problem::Refusal;
-use problem::check;
 use problem::node_count;
 use roots::closed_root;
 use roots::count_unsatisfied;
@@ -216,34 +210,4 @@ pub fn run(problem: &[u8], values: &mut [u64], tape: &[u64], budget: u16) -> Ans
         tape,
         budget,
     )
-}
-
-// What a problem asks of a tape: H, the words for a budget, and what the problem check found.
-pub struct TapeNeed {
-    pub h: u64,
-    pub words: u64,
-    pub found: Checked,
-}
-
-// How long a tape is needed for a budget: H and budget x (1 + 2H), or a refusal, and both 0.
-pub fn need(problem: &[u8], budget: u16) -> TapeNeed
-    ensures { λ r. ⌜ Needed (now (problem .entry)) budget r ⌝ }
-{
-    let found = check(problem);
-    if let Checked::Refused(refusal) = found {
-        return TapeNeed {
-            h: 0,
-            words: 0,
-            found: Checked::Refused(refusal),
-        };
-    }
-    let mut heights = [0u64; 1024];
-    fill_heights(problem, &mut heights);
-    let h = longest_chain(problem, &heights);
-    let words = words_for(budget, h);
-    TapeNeed {
-        h,
-        words,
-        found: Checked::Accepted,
-    }
 }

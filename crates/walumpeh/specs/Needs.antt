@@ -2,8 +2,8 @@
 use mathlib.Core.List.{List}
 use Prim.Native.Nat.{ℕ, _≤_, _<_}
 use lib.ListN.{length, set}
-use Rattle.search.specs.declared.TapeNeed.{TapeNeed}
-use Rattle.search.specs.Needed.{Needed}
+use Rattle.tapes.specs.declared.TapeNeed.{TapeNeed}
+use Rattle.tapes.specs.Needed.{Needed}
 use Rattle.walumpeh.specs.Codes.{checkedCode, tooShort}
 
 -- a call with the bytes s, the budget B and the places out: out afterwards, which has H and the words in its first places, and

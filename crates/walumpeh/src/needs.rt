@@ -12,7 +12,7 @@ pub extern "C" fn wal_need(problem: &[u8], budget: u16, out: &mut [u64]) -> u64
     if out.len() < 2 {
         return TOO_SHORT;
     }
-    let need = search::need(problem, budget);
+    let need = tapes::need(problem, budget);
     let found = need.found;
     out[0] = need.h;
     out[1] = need.words;

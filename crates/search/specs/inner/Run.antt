@@ -24,21 +24,12 @@ use Rattle.evaluation.specs.inner.Lists.{Count}
 use Rattle.search.specs.Step.{Out, goes, blocked}
 use Rattle.search.specs.Run.{End, sets, stuck, short, ClosedRoot, Unsatisfied, Move, Run}
 use Rattle.evaluation.specs.inner.Good.{Held}
-use Rattle.evaluation.specs.laws.Height.{Height}
 use Rattle.evaluation.specs.inner.Evaluation.{Filled}
 
 module _ (P : Prob) where
   -- a target of node n agrees with its pair
   abbrev pub Aimed : ℕ → ℕ → Type 0
   Aimed n t = Agrees (pairLo P n) (pairHi P n) t
-
--- ---- heights.rt
-
--- an accepted problem s, and the heights of its first i nodes in a list of 1,024 places
-pub record Heights (s hs : List ℕ) (i : ℕ) : Type 0 where
-  pub accepted : checked s ≡ Accepted
-  pub long : length hs ≡ 1024
-  pub so-far : (n : ℕ) → n < i → Height (problem s) n (getD hs n 0)
 
 -- ---- step.rt
 

@@ -13,14 +13,11 @@ use Rattle.problem.specs.declared.Refusal.{Refusal}
 use Rattle.problem.specs.laws.First.{refused-not}
 use Rattle.picking.specs.declared.spot.Spot.{Spot}
 use Rattle.search.specs.declared.Answer.{Answer}
-use Rattle.search.specs.declared.TapeNeed.{TapeNeed}
 use Rattle.evaluation.specs.Problem.{Prob}
 use Rattle.evaluation.specs.laws.Lists.{lists-unique}
 use Rattle.search.specs.Step.{Out, goes, blocked, Follows, Follows.inverse, Follows.consistent, Follows.nothing, Step, Step.none-left, Step.followed}
 use Rattle.search.specs.Run.{End, sets, stuck, short, Walk, Walk.arrives, Walk.unserved, Walk.stops, Walk.onward, Move, Move.no-word, Move.from-root, Run, Run.model, Run.spent, Run.ended, Run.moved, Run.held, Whole, Whole.closed, Whole.searched}
 use Rattle.search.specs.Call.{Called, Called.refuses, Called.runs, refused}
-use Rattle.search.specs.Needed.{Needed, Needed.refuses as turned, Needed.needs}
-use Rattle.evaluation.specs.laws.Height.{longest-unique}
 
 -- ---- a step
 
@@ -182,10 +179,3 @@ pub run-determined :
     → Called s start ws B out′ a′
     → (out ≡ out′) × (a ≡ a′)
 run-determined s start ws B out out′ a a′ c c′ = let same = called-unique c c′ in (same .values, same .answers)
-
--- of `need`
-pub need-determined : (s : List ℕ) (B : ℕ) (r r′ : TapeNeed) → Needed s B r → Needed s B r′ → r ≡ r′
-need-determined s B r r′ (turned t e) (turned t′ e′) = rw (same-refusal e e′)
-need-determined s B r r′ (turned t e) (needs e′ l′) = absurd (not-both e′ e)
-need-determined s B r r′ (needs e l) (turned t′ e′) = absurd (not-both e e′)
-need-determined s B r r′ (needs e l) (needs e′ l′) = rw (longest-unique l l′)

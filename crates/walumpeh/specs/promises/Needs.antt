@@ -4,8 +4,8 @@ use mathlib.Core.List.{List}
 use Prim.Native.Nat.{ℕ}
 use native.Mathlib.Omega.{arith}
 use lib.ListN.{set}
-use Rattle.search.specs.declared.TapeNeed.{TapeNeed}
-use Rattle.search.specs.promises.Determined.{need-determined}
+use Rattle.tapes.specs.declared.TapeNeed.{TapeNeed}
+use Rattle.tapes.specs.promises.Determined.{need-determined}
 use Rattle.walumpeh.specs.Codes.{checkedCode}
 use Rattle.walumpeh.specs.Needs.{NeedCode, NeedCode.no-room, NeedCode.told}
 

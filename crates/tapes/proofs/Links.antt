@@ -22,7 +22,7 @@ use Rattle.evaluation.specs.inner.Good.{Good}
 use Rattle.evaluation.specs.laws.Good.{good-of}
 use Rattle.evaluation.specs.laws.Height.{greatest, greatest-of-three, Height, height-over, height-short, longest-over}
 use Rattle.evaluation.specs.inner.Evaluation.{ids}
-use Rattle.search.specs.inner.Run.{Heights}
+use Rattle.tapes.specs.inner.Heights.{Heights}
 
 module _ (s hs : List ℕ) (i : ℕ) (t : Heights s hs i) (l : i < problem s .nodes) where
   abbrev P : Prob

@@ -1,9 +1,9 @@
--- `search::heights::through` meets its contract.
+-- `tapes::heights::through` meets its contract.
 use native.Mathlib.Omega.{arith}
 use native.Mathlib.Numerals.{add-one}
 use borrow.Author.Needs.{needs}
-use Rattle.search.proofs.heights.through.Statement.{statement}
-use Rattle.search.proofs.heights.through.Tie as tie
+use Rattle.tapes.proofs.heights.through.Statement.{statement}
+use Rattle.tapes.proofs.heights.through.Tie as tie
 
 mul-result : tie.Need-mul-result
 mul-result c = search needs

@@ -5,7 +5,7 @@ use Prim.Native.Nat.{ℕ, _+_, _*_}
 use Rattle.problem.specs.declared.Refusal.{Refusal}
 use Rattle.problem.specs.declared.Checked.the-variants.{Accepted, Refused}
 use Rattle.problem.specs.Refusals.{checked}
-use Rattle.search.specs.declared.TapeNeed.{TapeNeed}
+use Rattle.tapes.specs.declared.TapeNeed.{TapeNeed}
 use Rattle.evaluation.specs.Problem.{problem}
 use Rattle.evaluation.specs.Height.{Longest}
 

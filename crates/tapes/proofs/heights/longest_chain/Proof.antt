@@ -1,4 +1,4 @@
--- `search::heights::longest_chain` meets its contract.
+-- `tapes::heights::longest_chain` meets its contract.
 use mathlib.Core.Path.{_≡_}
 use Prim.Native.Nat.{_≤_, _-_}
 use native.Mathlib.Omega.{arith}
@@ -6,9 +6,9 @@ use borrow.Author.Needs.{needs}
 use Rattle.evaluation.specs.Problem.{problem}
 use Rattle.evaluation.specs.laws.Good.{good-of}
 use Rattle.evaluation.specs.laws.Readings.{root-inside}
-use Rattle.search.proofs.Links.{tallest, tallest-none, tallest-more, heights-longest}
-use Rattle.search.proofs.heights.longest_chain.Statement.{statement}
-use Rattle.search.proofs.heights.longest_chain.Tie as tie
+use Rattle.tapes.proofs.Links.{tallest, tallest-none, tallest-more, heights-longest}
+use Rattle.tapes.proofs.heights.longest_chain.Statement.{statement}
+use Rattle.tapes.proofs.heights.longest_chain.Tie as tie
 
 abbrev Inv-loop : tie.InvT-loop
 Inv-loop bytes heights n most₀ j₀ most j = (n ≡ problem bytes .entries) × (j ≤ n) × (most ≡ tallest bytes heights j)

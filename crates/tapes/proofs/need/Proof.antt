@@ -1,14 +1,14 @@
--- `search::need` meets its contract.
+-- `tapes::need` meets its contract.
 use mathlib.Core.Path.{sym, _∙_}
 use native.Mathlib.Nat.{not-suc-le-zero}
 use Rattle.evaluation.specs.Problem.{zeros}
-use Rattle.search.specs.Needed.{Needed.refuses, Needed.needs as needed}
+use Rattle.tapes.specs.Needed.{Needed.refuses, Needed.needs as needed}
 use Rattle.evaluation.specs.laws.Good.{good-of}
 use Rattle.evaluation.specs.laws.Pairs.{length-zeros}
 use Rattle.evaluation.specs.laws.Height.{longest-short}
 use borrow.Author.Needs.{needs}
-use Rattle.search.proofs.need.Statement.{statement}
-use Rattle.search.proofs.need.Tie as tie
+use Rattle.tapes.proofs.need.Statement.{statement}
+use Rattle.tapes.proofs.need.Tie as tie
 
 check-requires : tie.Need-check-requires
 check-requires c κs = search needs

@@ -1,9 +1,9 @@
--- `search::heights::height_at` meets its contract.
+-- `tapes::heights::height_at` meets its contract.
 use Rattle.evaluation.specs.laws.Readings.{node-there}
-use Rattle.search.proofs.Links.{operand-there, height-made}
+use Rattle.tapes.proofs.Links.{operand-there, height-made}
 use borrow.Author.Needs.{needs}
-use Rattle.search.proofs.heights.height_at.Statement.{statement}
-use Rattle.search.proofs.heights.height_at.Tie as tie
+use Rattle.tapes.proofs.heights.height_at.Statement.{statement}
+use Rattle.tapes.proofs.heights.height_at.Tie as tie
 
 node-at-requires : tie.Need-node-at-requires
 node-at-requires c κs = node-there _ _ (c .before .pre .0 .accepted) (c .before .pre .1)

@@ -6,7 +6,7 @@ ghost use lib.ListN.{length, getD};
 ghost use Rattle.evaluation.specs.Problem.{oneOf, problem};
 ghost use Rattle.evaluation.specs.Height.{Longest};
 ghost use Rattle.evaluation.specs.laws.Height.{Height};
-ghost use Rattle.search.specs.inner.Run.{Heights};
+ghost use Rattle.tapes.specs.inner.Heights.{Heights};
 use operators::operand_count;
 use problem::node_at;
 use problem::node_count;

@@ -7,18 +7,18 @@ use native.Mathlib.Omega.{arith}
 use lib.ListN.{length}
 use Rattle.problem.specs.declared.Checked.the-variants.{Accepted}
 use Rattle.problem.specs.Refusals.{checked}
 use Rattle.search.specs.declared.Answer.{Answer}
 use Rattle.search.specs.Answers.{said}
 use Rattle.evaluation.specs.Problem.{problem}
 use Rattle.search.specs.Run.{End, AllOne, Move, ClosedRoot, Whole.closed, Whole.searched}
 use Rattle.search.specs.Call.{Called, Called.refuses, Called.runs}
 use Rattle.evaluation.specs.Values.{Evaluated}
 use Rattle.evaluation.specs.Height.{Longest}
 use Rattle.evaluation.specs.laws.Good.{good-of}
 use Rattle.search.specs.laws.Runs.{kept-start, same-text}
 use Rattle.search.specs.promises.Accepted.{accepted-start}
-use Rattle.search.specs.Steps.{stepsOf}
-use Rattle.search.specs.laws.Need.{move-few, run-served}
+use Rattle.tapes.specs.Steps.{stepsOf}
+use Rattle.tapes.specs.laws.Need.{move-few, run-served}
 
 -- "no move makes more than H steps": of an accepted problem with no root fixed at 0, where every node has its value and some
 -- root is not 1, which is where moves are made

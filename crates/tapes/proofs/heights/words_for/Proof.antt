@@ -1,9 +1,9 @@
--- `search::heights::words_for` meets its contract.
+-- `tapes::heights::words_for` meets its contract.
 use native.Mathlib.Omega.{arith}
-use Rattle.search.proofs.Links.{words-fit}
+use Rattle.tapes.proofs.Links.{words-fit}
 use borrow.Author.Needs.{needs}
-use Rattle.search.proofs.heights.words_for.Statement.{statement}
-use Rattle.search.proofs.heights.words_for.Tie as tie
+use Rattle.tapes.proofs.heights.words_for.Statement.{statement}
+use Rattle.tapes.proofs.heights.words_for.Tie as tie
 
 mul-result : tie.Need-mul-result
 mul-result c = search needs

@@ -1,14 +1,14 @@
--- `search::heights::fill_heights` meets its contract.
+-- `tapes::heights::fill_heights` meets its contract.
 use mathlib.Core.Path.{_≡_}
 use Prim.Native.Nat.{_≤_, _<_, _-_}
 use native.Mathlib.Omega.{arith}
 use borrow.Author.Needs.{needs}
 use Rattle.evaluation.specs.Problem.{problem}
 use Rattle.evaluation.specs.laws.Good.{good-of}
-use Rattle.search.specs.inner.Run.{Heights}
-use Rattle.search.proofs.Links.{heights-more, heights-all}
-use Rattle.search.proofs.heights.fill_heights.Statement.{statement}
-use Rattle.search.proofs.heights.fill_heights.Tie as tie
+use Rattle.tapes.specs.inner.Heights.{Heights}
+use Rattle.tapes.proofs.Links.{heights-more, heights-all}
+use Rattle.tapes.proofs.heights.fill_heights.Statement.{statement}
+use Rattle.tapes.proofs.heights.fill_heights.Tie as tie
 
 abbrev Inv-loop : tie.InvT-loop
 Inv-loop bytes heights₀ n i₀ heights i = (n ≡ problem bytes .nodes) × (i ≤ n) × Heights bytes heights i
