@@ -146,7 +146,7 @@ fn starts_in_turn(
     }
 }
 
-// All starts of a call that is not refused. Few nodes have little room, as in a single run.
+// All starts of a call that is not refused, in room for 1,024 nodes, which is cleared once for all of them.
 pub fn run_starts(
     problem: &[u8],
     starts: u64,
@@ -159,24 +159,6 @@ pub fn run_starts(
     requires { ⌜ Enough (now problem) starts (now values) (now tape) (now lengths) (now budgets) (now answers) ⌝ }
     ensures { λ r. ⌜ Starts (now (problem .entry)) starts (now (values .entry)) (now (tape .entry)) (now (lengths .entry)) (now (budgets .entry)) (now (answers .entry)) (now (values .exit)) (now (answers .exit)) ⌝ }
 {
-    if node_count(problem) <= 128 {
-        let mut los = [0u64; 128];
-        let mut his = [0u64; 128];
-        let mut slots = [0u16; 512];
-        starts_in_turn(
-            problem,
-            &mut los,
-            &mut his,
-            &mut slots,
-            starts,
-            values,
-            tape,
-            lengths,
-            budgets,
-            answers,
-        );
-        return;
-    }
     let mut los = [0u64; 1024];
     let mut his = [0u64; 1024];
     let mut slots = [0u16; 4096];
