@@ -28,7 +28,7 @@
 extern "C" {
 #endif
 
-enum { WAL_STACK = 27648, WAL_MODEL_STACK = 49152, WAL_MEND_STACK = 36864, WAL_BTOR2_STACK = 38912 };
+enum { WAL_STACK = 27648, WAL_MODEL_STACK = 49152, WAL_MEND_STACK = 36864, WAL_BTOR2_STACK = 49152 };
 
 /* What a node computes. Fields a, b, c of a node name its operands; extract's b is its lowest bit. */
 enum {
