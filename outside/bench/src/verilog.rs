@@ -22,6 +22,9 @@ pub struct Asked {
     /// The most that a process may take
     #[arg(long, default_value_t = 10)]
     seconds: u64,
+    /// Count the processor's time, user and system, of each process: other work on the machine changes it less
+    #[arg(long)]
+    processor: bool,
     /// Measure ours alone
     #[arg(long)]
     ours: bool,
@@ -203,9 +206,22 @@ fn run(asked: &Asked, solver: &Solver, file: &Path, seed: usize) -> Result<Ended
     let program = program(&words.next().expect("a command"));
     let mut command = Command::new(&program);
     command.args(words).stdin(Stdio::null()).stdout(Stdio::piped()).stderr(Stdio::null());
-    let begun = Instant::now();
+    let (begun, used) = (Instant::now(), used());
     let output = command.output().map_err(|fault| format!("{}: {fault}", program.display()))?;
-    Ok(Ended { status: output.status.code(), printed: output.stdout, time: begun.elapsed() })
+    let time = if asked.processor { self::used() - used } else { begun.elapsed() };
+    Ok(Ended { status: output.status.code(), printed: output.stdout, time })
+}
+
+/// The processor's time of all processes that were started here and have ended.
+fn used() -> Duration {
+    // SAFETY: all zeros are a value of it, and the call writes to nothing else.
+    let usage = unsafe {
+        let mut usage: libc::rusage = std::mem::zeroed();
+        assert_eq!(libc::getrusage(libc::RUSAGE_CHILDREN, &mut usage), 0);
+        usage
+    };
+    let time = |time: libc::timeval| Duration::new(time.tv_sec as u64, 1000 * time.tv_usec as u32);
+    time(usage.ru_utime) + time(usage.ru_stime)
 }
 
 /// The file that a solver reads; one that was made for it is gone afterwards.
