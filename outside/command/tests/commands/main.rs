@@ -14,4 +14,5 @@ mod models;
 mod printing;
 mod solve;
 mod tour;
+mod verilog;
 mod writing;
