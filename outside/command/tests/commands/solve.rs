@@ -117,8 +117,8 @@ fn a_terminal_sees_how_far_it_is() {
     let search = [" runs, ", "moves/s, fewest unsatisfied roots "];
     let nothing = "x\nkept 0 repeats 0 unkept 0\nstarts 256 ";
     for (line, words, printed) in [
-        ("solve odd.txt --time 1 --jobs 1", search, "not found runs "),
-        ("gather odd.txt --name x --time 1 --jobs 1 --budget 65535", search, nothing),
+        ("solve odd.txt --time 0.6 --jobs 1", search, "not found runs "),
+        ("gather odd.txt --name x --time 0.6 --jobs 1 --budget 65535", search, nothing),
         ("tape wide.tbv --starts 256 --budget 400", [" of 256 ", "starts drawn"], ""),
     ] {
         let (mut seen, terminal) = terminal();
@@ -133,6 +133,7 @@ fn a_terminal_sees_how_far_it_is() {
         let lines = String::from_utf8_lossy(&lines);
         assert!(words.iter().all(|word| lines.contains(word)), "{line}: {lines}");
         assert!(text(&output.stdout).starts_with(printed), "{line}: {}", text(&output.stdout));
+        assert!(lines.ends_with("\r\x1b[2K"), "{line}: {lines:?}");
         // In a pipe nothing is said, for as long.
         assert!(at.run(line).stderr.is_empty(), "{line}");
     }
