@@ -8,8 +8,8 @@ use native.Mathlib.Omega.{arith}
 use native.Mathlib.Decide.{ℕ-discrete}
 use lib.ListN.{length, getD, set, take, drop, drop-of-length-le}
 use lib.Seq.{take-all, paste, paste-zero, paste-suc, length-paste}
-use Rattle.search.specs.Batch.{part}
-use Rattle.search.specs.laws.Parts.{part-length, part-inside}
+use Rattle.batches.specs.Batch.{part}
+use Rattle.batches.specs.laws.Parts.{part-length, part-inside}
 use Rattle.frames.specs.declared.gathering.Tally.{Tally}
 use Rattle.frames.specs.Names.{most}
 use Rattle.frames.specs.Bench.{Alike, Modelled}

@@ -17,8 +17,8 @@ use Rattle.problem.specs.declared.layout.Node.{Node}
 use Rattle.problem.specs.Layout.{nodeCount, nodeAt}
 use Rattle.problem.specs.Refusals.{refusal, firstOf, _then_, firstBelow, checked}
 use Rattle.problem.specs.laws.First.{then-accepted, then-refused}
-use Rattle.search.specs.Batch.{batchRefusals}
-use Rattle.search.specs.promises.Accepted.{accepted-batch}
+use Rattle.batches.specs.Batch.{batchRefusals}
+use Rattle.batches.specs.promises.Accepted.{accepted-batch}
 use Rattle.frames.specs.Names.{most, countFault, noVariable, namedBefore, nameFault, keepFault, gatherRefusals}
 
 or-left : (a b : Bool) → true ≡ a → true ≡ (a || b)

@@ -9,10 +9,10 @@ use lib.ListN.{length, drop, length-take, length-drop}
 use Rattle.problem.specs.declared.Checked.the-variants.{Accepted}
 use Rattle.problem.specs.Layout.{nodeCount}
 use Rattle.search.specs.Answers.{answerWords}
-use Rattle.search.specs.Batch.{part, Starts, Batch.runs}
-use Rattle.search.specs.promises.Accepted.{Enough, batch-accepted}
-use Rattle.search.specs.laws.Batch.{called-long}
-use Rattle.search.specs.laws.Parts.{part-length, part-inside}
+use Rattle.batches.specs.Batch.{part, Starts, Batch.runs}
+use Rattle.batches.specs.promises.Accepted.{Enough, batch-accepted}
+use Rattle.batches.specs.laws.Batch.{called-long}
+use Rattle.batches.specs.laws.Parts.{part-length, part-inside}
 use Rattle.frames.specs.Names.{gatherRefusals}
 use Rattle.frames.specs.Bench.{Bench, Gather, Gather.gathers as gathered}
 use Rattle.frames.specs.inner.Bench.{Gatherable}

@@ -9,7 +9,7 @@ use Rattle.problem.specs.declared.Checked.the-variants.{Accepted, Refused}
 use Rattle.problem.specs.Layout.{nodeCount}
 use Rattle.search.specs.declared.Verdict.the-variants.{Model}
 use Rattle.search.specs.Answers.{verdictNumber, answerWords}
-use Rattle.search.specs.Batch.{places, Batch}
+use Rattle.batches.specs.Batch.{places, Batch}
 use Rattle.frames.specs.declared.Gathered.{Gathered}
 use Rattle.frames.specs.Names.{most, gatherRefusals}
 

@@ -7,7 +7,7 @@ use lib.ListN.{length, getD}
 use Rattle.problem.specs.declared.Checked.{Checked}
 use Rattle.problem.specs.Layout.{nodeCount, nodeAt}
 use Rattle.problem.specs.Refusals.{firstOf, _then_, firstBelow}
-use Rattle.search.specs.Batch.{batchRefusals}
+use Rattle.batches.specs.Batch.{batchRefusals}
 
 -- "keeps up to 64 solutions"
 abbrev pub most : ℕ

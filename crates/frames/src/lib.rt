@@ -4,10 +4,10 @@ ghost use Rattle.frames.specs.Bench.{Gather};
 mod gathering;
 mod names;
 
+use batches::run_starts;
 use gathering::gather_models;
 use names::gather_refusal;
 use problem::Checked;
-use search::run_starts;
 
 // How many solutions are kept, how many models agree with a kept one, and how many are neither; and what was found of the call.
 pub struct Gathered {

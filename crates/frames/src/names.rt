@@ -5,11 +5,11 @@ ghost use lib.ListN.{length, getD};
 ghost use Rattle.problem.specs.declared.Checked.the-variants.{Accepted};
 ghost use Rattle.problem.specs.Refusals.{firstBelow, checked};
 ghost use Rattle.frames.specs.Names.{noVariable, namedBefore, nameFault, gatherRefusals};
+use batches::batch_refusal;
 use problem::Checked;
 use problem::line;
 use problem::node_at;
 use problem::node_count;
-use search::batch_refusal;
 
 // Whether an id names no variable.
 fn no_variable(problem: &[u8], id: u16) -> bool

@@ -4,4 +4,3 @@ pub mod Steps
 pub mod Places
 pub mod Turns
 pub mod Runs
-pub mod Many

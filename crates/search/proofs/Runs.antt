@@ -1,10 +1,10 @@
 -- What the loop of a run takes from the definitions, and how a call begins.
 use mathlib.Core.Path.{_≡_, refl, sym, _∙_}
 use mathlib.Core.List.{List}
-use Prim.Native.Nat.{ℕ, zero, suc, _+_, _*_, _^_, _≤_, _<_}
+use Prim.Native.Nat.{ℕ, _+_, _*_, _^_, _≤_, _<_}
 use native.Mathlib.Omega.{arith}
 use native.Mathlib.Nat.{add-zero}
-use lib.ListN.{length, getD, drop, replicate, length-replicate}
+use lib.ListN.{length, drop}
 use mathlib.Core.Bool.{cond}
 use lib.Dec.{ltb}
 use Rattle.problem.specs.declared.Checked.{Checked}
@@ -23,7 +23,7 @@ use Rattle.evaluation.specs.inner.Good.{Good, Held}
 use Rattle.evaluation.specs.laws.Good.{good-of}
 use Rattle.evaluation.specs.laws.Values.{held-evaluate}
 use Rattle.search.specs.promises.Accepted.{accepted-start}
-use Rattle.search.specs.laws.Starts.{places-right}
+use Rattle.search.specs.laws.Starts.{places-right, then-assoc}
 use Rattle.search.specs.laws.Moves.{move-lands}
 use Rattle.search.specs.laws.Runs.{kept-after}
 use Rattle.evaluation.specs.inner.Evaluation.{Assigned, Filled}
@@ -31,7 +31,6 @@ use Rattle.evaluation.specs.inner.Lists.{Count}
 use Rattle.evaluation.specs.inner.Readers.{Indexed}
 use Rattle.evaluation.specs.laws.Decide.{lists-length}
 use Rattle.search.specs.inner.Run.{Searching, Drawing, Finishes, Finishes.sets-one, Finishes.sets-none, Turned, Searched, Lent}
-use Rattle.search.specs.inner.Batch.{Unprepared}
 use Rattle.search.proofs.Places.{no-more, some-left}
 
 -- where the loop of a run is: values that hold, with the problem's own index of readers, m moves and so many steps made, at
@@ -129,34 +128,7 @@ module _ {s los his slots start tape : List ℕ} {B : ℕ} {vs : List ℕ} {m st
             onto = λ out a x. o .onto out a (n .run-on out a x);
           }
 
--- ---- the room for what is worked out of a problem
-
-all-zero : (n k : ℕ) → _≡_ {A = ℕ} (getD (replicate n 0) k 0) 0
-all-zero zero k = refl
-all-zero (suc n) zero = refl
-all-zero (suc n) (suc k) = all-zero n k
-
-long : (n : ℕ) → length (replicate {A = ℕ} n 0) ≡ n
-long n = length-replicate {A = ℕ} n 0
-
--- arrays of zeros for at least as many nodes as there are
-pub unprepared :
-    {s : List ℕ} (n : ℕ)
-    → checked s ≡ Accepted
-    → problem s .nodes ≤ n
-    → Unprepared s (replicate n 0) (replicate n 0) (replicate (4 * n) 0)
-unprepared n a h =
-    record {
-      unfilled = record { accepted = a; room-lo = rw (long n) h; room-hi = rw (long n) h };
-      unindexed = record { accepted = a; room = rw (long (4 * n)) (omega arith); none = all-zero (4 * n) };
-    }
-
 -- ---- refusals of a call
-
-pub then-assoc : (x y z : Checked) → ((x then y) then z) ≡ (x then y then z)
-unfolding _then_
-then-assoc Accepted y z = refl
-then-assoc (Refused r) y z = refl
 
 -- the problem check and line 14, from the answers of both
 pub first-two :

@@ -3,7 +3,6 @@ pub mod Step
 pub mod Run
 pub mod Call
 pub mod Answers
-pub mod Batch
 pub mod Reach
 pub mod Passing
 pub mod inner

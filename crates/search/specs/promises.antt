@@ -1,6 +1,5 @@
 -- What is promised, as theorems over all that the contracts allow.
 pub mod Accepted
-pub mod Batch
 pub mod Demands
 pub mod Determined
 pub mod More

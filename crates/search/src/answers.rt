@@ -1,8 +1,6 @@
-// What a run answers, as words: for the C interface, and where many answers stand one after another.
+// What a run answers, as numbers: for the C interface, and where many answers stand one after another.
 ghost use mathlib.Core.Path.{_≡_};
-ghost use lib.ListN.{length};
-ghost use Rattle.search.specs.Answers.{verdictNumber, verdictCode, refusalCode, outcomeCode, answerWords, told};
-use crate::Answer;
+ghost use Rattle.search.specs.Answers.{verdictNumber, verdictCode, refusalCode, outcomeCode};
 use crate::Outcome;
 use crate::Verdict;
 use problem::Refusal;
@@ -43,20 +41,4 @@ pub fn outcome_code(outcome: Outcome) -> u64
         Outcome::Settled(_) => 0,
         Outcome::Refused(why) => refusal_code(why),
     }
-}
-
-// The six words of an answer.
-pub(crate) fn tell(a: Answer, out: &mut [u64])
-    requires { ⌜ length (now out) ≡ answerWords ⌝ }
-    ensures { λ r. ⌜ now (out .exit) ≡ told a ⌝ }
-{
-    let outcome = a.outcome;
-    let refusal = outcome_code(outcome);
-    let verdict = verdict_code(outcome);
-    out[0] = refusal;
-    out[1] = verdict;
-    out[2] = a.moves;
-    out[3] = a.steps;
-    out[4] = a.words;
-    out[5] = a.evaluated;
 }

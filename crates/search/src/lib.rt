@@ -1,14 +1,13 @@
 // The run of document 01, an entry point: steps, moves, and whole runs.
 ghost use mathlib.Core.Path.{_≡_};
 ghost use Prim.Native.Nat.{_+_, _*_};
+ghost use Rattle.evaluation.specs.inner.Evaluation.{Fills};
 ghost use Rattle.evaluation.specs.inner.Readers.{Indexed};
 ghost use Rattle.search.specs.Run.{answer};
 ghost use Rattle.search.specs.Call.{refused, Called};
-ghost use Rattle.search.specs.inner.Run.{Searching, Searched, Lent};
-ghost use Rattle.search.specs.inner.Batch.{Unprepared, Prepared};
+ghost use Rattle.search.specs.inner.Run.{Searching, Searched, Lent, Unprepared, Prepared};
 
 mod answers;
-mod batches;
 mod moves;
 mod roots;
 mod starts;
@@ -17,9 +16,6 @@ mod step;
 pub use answers::outcome_code;
 pub use answers::refusal_code;
 pub use answers::verdict_code;
-pub use batches::batch;
-pub use batches::batch_refusal;
-pub use batches::run_starts;
 use evaluation::evaluate;
 use evaluation::fill;
 use evaluation::index_readers;
@@ -123,7 +119,7 @@ fn turned_away(refusal: Refusal) -> Answer
 
 // A start, where the problem is accepted and the places are there: 15, which leaves them as they were; or all nodes evaluated, and
 // the search.
-pub(crate) fn run_one(
+pub fn run_one(
     bytes: &[u8],
     los: &[u64],
     his: &[u64],
@@ -149,9 +145,9 @@ pub(crate) fn run_one(
 
 // What is worked out of an accepted problem once for all its starts: the pairs, the index of readers, and whether a root is fixed
 // at 0.
-pub(crate) fn prepare(bytes: &[u8], los: &mut [u64], his: &mut [u64], slots: &mut [u16]) -> bool
+pub fn prepare(bytes: &[u8], los: &mut [u64], his: &mut [u64], slots: &mut [u16]) -> bool
     requires { ⌜ Unprepared (now bytes) (now los) (now his) (now slots) ⌝ }
-    ensures { λ r. ⌜ Prepared (now (bytes .entry)) (now (los .exit)) (now (his .exit)) (now (slots .exit)) r ⌝ }
+    ensures { λ r. ⌜ Prepared (now (bytes .entry)) (now (los .exit)) (now (his .exit)) (now (slots .exit)) r × Fills (now (bytes .entry)) (now (los .entry)) (now (his .entry)) (now (los .exit)) (now (his .exit)) ⌝ }
 {
     fill(bytes, los, his);
     index_readers(bytes, slots);

@@ -2,7 +2,7 @@
 use mathlib.Core.List.{List}
 use Prim.Native.Nat.{ℕ}
 use Rattle.problem.specs.declared.Checked.{Checked}
-use Rattle.search.specs.Batch.{Batch}
+use Rattle.batches.specs.Batch.{Batch}
 use Rattle.walumpeh.specs.Codes.{checkedCode}
 
 -- a call with the bytes s and what is lent for so many starts: values and answers afterwards, and the number

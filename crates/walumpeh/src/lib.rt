@@ -1,7 +1,6 @@
 // The C interface: the problem check, the run, many of them at once, how long a tape a run needs, the judgement of another
 // solver's model, the mender, the frame bench, the conversion of BTOR2, and the picks of a single node, on numbers and slices.
 // Nothing here trusts its caller: a word past the end of a slice reads as 0, and a node that no accepted problem has is refused.
-mod batches;
 mod checks;
 mod codes;
 mod conversions;
@@ -12,3 +11,4 @@ mod needs;
 mod nodes;
 mod offered;
 mod runs;
+mod starts;

@@ -5,8 +5,8 @@ use Prim.Native.Nat.{ℕ, _+_, _*_, _≤_, _<_}
 use lib.ListN.{length, getD}
 use Rattle.problem.specs.Layout.{nodeCount}
 use Rattle.search.specs.Answers.{answerWords}
-use Rattle.search.specs.Batch.{part}
-use Rattle.search.specs.laws.Parts.{laid}
+use Rattle.batches.specs.Batch.{part}
+use Rattle.batches.specs.laws.Parts.{laid}
 use Rattle.frames.specs.declared.gathering.Tally.{Tally}
 use Rattle.frames.specs.Names.{most}
 use Rattle.frames.specs.Bench.{Alike, Modelled, Bench}

@@ -10,8 +10,8 @@ use lib.ListN.{length, getD, length-append, List·getD-append}
 use lib.Seq.{getD-append-seam}
 use Rattle.problem.specs.Layout.{nodeCount}
 use Rattle.search.specs.Answers.{answerWords}
-use Rattle.search.specs.Batch.{part, places}
-use Rattle.search.specs.laws.Parts.{laid, part-length, part-inside, laid-length, laid-here, laid-below, laid-beyond}
+use Rattle.batches.specs.Batch.{part, places}
+use Rattle.batches.specs.laws.Parts.{laid, part-length, part-inside, laid-length, laid-here, laid-below, laid-beyond}
 use Rattle.frames.specs.declared.gathering.Tally.{Tally}
 use Rattle.frames.specs.Names.{most}
 use Rattle.frames.specs.Bench.{Alike, Modelled, Agrees, Gathers, Gathers.none, Gathers.passed, Gathers.keeps, Gathers.repeats, Gathers.unkept, Bench}

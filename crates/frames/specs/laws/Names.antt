@@ -16,8 +16,8 @@ use Rattle.problem.specs.Refusals.{_then_, firstBelow, checked}
 use Rattle.problem.specs.laws.Tests.{lt-no, le-no, eq-no, eq-yes, not-no, or-no}
 use Rattle.problem.specs.laws.First.{then-left, then-right, then-accepted, first-each, first-all}
 use Rattle.search.specs.laws.Starts.{one-line-is}
-use Rattle.search.specs.Batch.{batchRefusals}
-use Rattle.search.specs.promises.Accepted.{Enough, accepted-batch}
+use Rattle.batches.specs.Batch.{batchRefusals}
+use Rattle.batches.specs.promises.Accepted.{Enough, accepted-batch}
 use Rattle.frames.specs.Names.{most, countFault, noVariable, namedBefore, nameFault, keepFault, gatherRefusals}
 
 -- none of the first k names is this id

@@ -9,8 +9,8 @@ use Rattle.problem.specs.declared.Checked.the-variants.{Accepted}
 use Rattle.problem.specs.Layout.{nodeCount}
 use Rattle.problem.specs.Refusals.{_then_, firstBelow}
 use Rattle.problem.specs.laws.First.{then-left, then-right, then-accepted}
-use Rattle.search.specs.Batch.{batchRefusals}
-use Rattle.search.specs.promises.Accepted.{Enough, accepted-batch, batch-accepted}
+use Rattle.batches.specs.Batch.{batchRefusals}
+use Rattle.batches.specs.promises.Accepted.{Enough, accepted-batch, batch-accepted}
 use Rattle.frames.specs.Names.{most, countFault, nameFault, keepFault, gatherRefusals}
 use Rattle.frames.specs.laws.Names.{Named, count-right, names-right, keep-right}
 

@@ -6,10 +6,10 @@ use native.Mathlib.Omega.{arith}
 use lib.ListN.{length, getD, drop}
 use Rattle.problem.specs.declared.Checked.the-variants.{Accepted, Refused}
 use Rattle.problem.specs.Layout.{nodeCount}
-use Rattle.search.specs.Batch.{places}
-use Rattle.search.specs.laws.Parts.{parts-same}
+use Rattle.batches.specs.Batch.{places}
+use Rattle.batches.specs.laws.Parts.{parts-same}
 use Rattle.search.specs.promises.Determined.{not-both, same-refusal}
-use Rattle.search.specs.promises.Batch.{batch-determined}
+use Rattle.batches.specs.promises.Batch.{batch-determined}
 use Rattle.frames.specs.declared.Gathered.{Gathered}
 use Rattle.frames.specs.Bench.{Agrees, Gathers, Gathers.none, Gathers.passed, Gathers.keeps, Gathers.repeats, Gathers.unkept, Bench, Gather, Gather.refuses, Gather.gathers as gathered}
 

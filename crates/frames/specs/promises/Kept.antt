@@ -21,9 +21,9 @@ use Rattle.search.specs.declared.Answer.{Answer}
 use Rattle.search.specs.Answers.{said, verdictNumber, verdictCode, answerWords}
 use Rattle.search.specs.Run.{AllOne}
 use Rattle.search.specs.Call.{Called}
-use Rattle.search.specs.Batch.{places, stretch, Start, Batch}
+use Rattle.batches.specs.Batch.{places, stretch, Start, Batch}
 use Rattle.search.specs.promises.Demands.{clash, Settled, demand-2}
-use Rattle.search.specs.promises.Batch.{starts-of}
+use Rattle.batches.specs.promises.Batch.{starts-of}
 use Rattle.search.specs.promises.Determined.{called-unique}
 use Rattle.frames.specs.Names.{most}
 use Rattle.frames.specs.Bench.{Alike, Modelled, Agrees, Gathers, Gathers.none, Gathers.passed, Gathers.keeps, Gathers.repeats, Gathers.unkept, Bench}

@@ -23,7 +23,7 @@ same-length-3 : tie.Need-same-length-3
 same-length-3 c = search needs
 
 returns : tie.Need-returns
-returns c = record { filled = filled _ _ _ (c .before .before .before .before .before .before .before .before .before .before .before .before .before .before .before .before .before .before .pre .unfilled) (c .before .before .before .before .before .before .before .before .before .before .before .fill .ensures); indexed = c .before .before .before .before .before .index-readers .ensures; decided = c .closed-root .ensures }
+returns c = (record { filled = filled _ _ _ (c .before .before .before .before .before .before .before .before .before .before .before .before .before .before .before .before .before .before .pre .unfilled) (c .before .before .before .before .before .before .before .before .before .before .before .fill .ensures); indexed = c .before .before .before .before .before .index-readers .ensures; decided = c .closed-root .ensures }, c .before .before .before .before .before .before .before .before .before .before .before .fill .ensures)
 
 pub prepare-spec : {M : Type 1} → statement M
 prepare-spec =

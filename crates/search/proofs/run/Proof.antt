@@ -3,7 +3,8 @@ use native.Mathlib.Omega.{arith}
 use Rattle.evaluation.specs.Problem.{problem}
 use Rattle.evaluation.specs.laws.Good.{good-of}
 use Rattle.search.specs.Call.{Called.refuses}
-use Rattle.search.proofs.Runs.{unprepared, lent-of, refused-of}
+use Rattle.search.specs.laws.Room.{unprepared}
+use Rattle.search.proofs.Runs.{lent-of, refused-of}
 use borrow.Author.Needs.{needs}
 use Rattle.search.proofs.run.Statement.{statement}
 use Rattle.search.proofs.run.Tie as tie

@@ -4,7 +4,7 @@ use Rattle.words.specs.laws.Decides.{decides-yes, decides-no}
 use Rattle.evaluation.specs.Problem.{problem}
 use Rattle.search.specs.Run.{Whole.closed, Whole.searched}
 use Rattle.search.specs.Call.{Called.refuses, Called.runs}
-use Rattle.search.specs.laws.Batch.{refusals-lent}
+use Rattle.search.specs.laws.Starts.{refusals-lent}
 use Rattle.search.proofs.Runs.{begun, begins}
 use borrow.Author.Needs.{needs}
 use Rattle.search.proofs.run_one.Statement.{statement}

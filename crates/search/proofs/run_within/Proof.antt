@@ -7,7 +7,7 @@ prepare-requires : tie.Need-prepare-requires
 prepare-requires c κs = c .before .before .before .before .before .before .before .before .before .pre .0
 
 run-one-requires : tie.Need-run-one-requires
-run-one-requires c κs = (c .before .before .before .before .before .before .before .before .before .before .prepare .ensures, c .before .before .before .before .before .before .before .before .before .before .before .before .before .before .before .before .before .before .before .before .pre .1)
+run-one-requires c κs = (c .before .before .before .before .before .before .before .before .before .before .prepare .ensures .0, c .before .before .before .before .before .before .before .before .before .before .before .before .before .before .before .before .before .before .before .before .pre .1)
 
 same-length : tie.Need-same-length
 same-length c = search needs

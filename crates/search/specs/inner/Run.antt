@@ -1,6 +1,7 @@
 -- What the inner functions of the run ask and answer, in terms of the definitions. (Not needed to read what the run promises.)
 use Prim.Native.Nat.{ℕ, zero, suc, _+_, _*_, _^_, _≤_, _<_}
 use Rattle.words.specs.Agree.{Agrees}
+use Rattle.words.specs.inner.Decides.{Decides}
 use Rattle.evaluation.specs.Problem.{Prob, pairLo, pairHi, problem, evaluate}
 use mathlib.Core.Path.{_≡_}
 use mathlib.Core.Bool.{Bool, true, false}
@@ -24,7 +25,8 @@ use Rattle.evaluation.specs.inner.Lists.{Count}
 use Rattle.search.specs.Step.{Out, goes, blocked}
 use Rattle.search.specs.Run.{End, sets, stuck, short, ClosedRoot, Unsatisfied, Move, Run}
 use Rattle.evaluation.specs.inner.Good.{Held}
-use Rattle.evaluation.specs.inner.Evaluation.{Filled}
+use Rattle.evaluation.specs.inner.Evaluation.{Unfilled, Filled}
+use Rattle.evaluation.specs.inner.Readers.{Unindexed, Indexed}
 
 module _ (P : Prob) where
   -- a target of node n agrees with its pair
@@ -130,6 +132,17 @@ pub record Lent (s vs : List ℕ) : Type 0 where
   pub places : nodeCount s ≤ length vs
 
 -- ---- lib.rt
+
+-- what is worked out of an accepted problem once for all starts: the pairs, the index of readers, and whether a root is fixed at 0
+pub record Prepared (s los his slots : List ℕ) (closed : Bool) : Type 0 where
+  pub filled : Filled s los his
+  pub indexed : Indexed s slots
+  pub decided : Decides (ClosedRoot (problem s)) closed
+
+-- the room for that: a place for each node in two lists, and four zeros for each node in a third
+pub record Unprepared (s los his slots : List ℕ) : Type 0 where
+  pub unfilled : Unfilled s los his
+  pub unindexed : Unindexed s slots
 
 -- the search from values at which all nodes were evaluated: the values and the answer at its end
 abbrev pub Searched : List ℕ → List ℕ → List ℕ → ℕ → List ℕ → Answer → Type 0

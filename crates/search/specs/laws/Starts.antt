@@ -1,5 +1,5 @@
 -- Laws of refusals 14 and 15: what each tests, and that only the variables' places bear on them.
-use mathlib.Core.Path.{_≡_, refl, ap₂}
+use mathlib.Core.Path.{_≡_, refl, ap₂, _∙_}
 use mathlib.Core.Logic.{_↔_}
 use mathlib.Core.Bool.{Bool, false}
 use mathlib.Core.List.{List, [], _∷_}
@@ -12,14 +12,15 @@ use borrow.Author.Tests.{ne-eqb}
 use Rattle.words.specs.Agree.{Agrees}
 use Rattle.words.specs.laws.Agree.{agrees-of-within, lo-within, within-hi}
 use Rattle.problem.specs.declared.Checked.{Checked}
-use Rattle.problem.specs.declared.Checked.the-variants.{Accepted}
+use Rattle.problem.specs.declared.Checked.the-variants.{Accepted, Refused}
 use Rattle.problem.specs.Layout.{nodeCount, nodeAt}
 use Rattle.problem.specs.Refusals.{firstOf, _then_, firstBelow, bitOutside}
 use Rattle.problem.specs.laws.Tests.{lt-no, eq-yes, or-no, and-no}
-use Rattle.problem.specs.laws.First.{none-of, of-none}
+use Rattle.problem.specs.laws.First.{none-of, of-none, then-accepted}
 use Rattle.problem.specs.laws.Facts.{within-right}
 use Rattle.evaluation.specs.Problem.{problem, Variable}
 use Rattle.search.specs.Call.{placesFault, disagrees, startFault, refusals}
+use Rattle.search.specs.inner.Run.{Lent}
 
 agree-right : (lo hi v : ℕ) → (disagrees lo hi v ≡ false) ↔ Agrees lo hi v
 unfolding disagrees bitOutside
@@ -64,3 +65,15 @@ refusals-same s start other e h =
       first-same (startFault s start) (startFault s other) (nodeCount s)
           (λ i l. elim (ℕ-discrete (nodeAt s i .kind) 0) [ yes v ↦ rw (h i l v) | no x ↦ rw (ne-eqb (nodeAt s i .kind) 0 x) ]),
     )
+
+-- ---- refusals one after another
+
+pub then-assoc : (x y z : Checked) → ((x then y) then z) ≡ (x then y then z)
+unfolding _then_
+then-assoc Accepted y z = refl
+then-assoc (Refused r) y z = refl
+
+-- where the problem is accepted and the places are there, a call is refused by 15 alone
+pub refusals-lent : {s vs : List ℕ} → Lent s vs → refusals s vs ≡ firstBelow (startFault s vs) (nodeCount s)
+unfolding refusals
+refusals-lent {s} {vs} l = then-accepted _ _ (l .accepted) ∙ then-accepted _ _ (places-right s vs .1 (l .places))

@@ -1,19 +1,27 @@
 -- What the definitions of a run allow is one result: lists, steps, walks, moves, runs and whole calls are each determined.
 use mathlib.Core.Path.{_≡_, refl, sym, ap, _∙_, subst}
 use mathlib.Core.Logic.{_⊎_, inl, inr}
+use mathlib.Core.Bool.{Bool}
 use mathlib.Core.List.{List, []}
-use Prim.Native.Nat.{ℕ, _/_, _%_, _<_}
+use Prim.Native.Nat.{ℕ, _*_, _/_, _%_, _<_}
 use native.Mathlib.Omega.{arith}
 use lib.ListN.{length, getD}
 use Rattle.words.specs.Pick.{Pick, Empty}
 use Rattle.words.specs.laws.Pick.{pick-unique, pick-member}
+use Rattle.words.specs.laws.Decides.{decides-unique}
 use Rattle.problem.specs.declared.Checked.{Checked}
 use Rattle.problem.specs.declared.Checked.the-variants.{Accepted, Refused}
 use Rattle.problem.specs.declared.Refusal.{Refusal}
 use Rattle.problem.specs.laws.First.{refused-not}
 use Rattle.picking.specs.declared.spot.Spot.{Spot}
 use Rattle.search.specs.declared.Answer.{Answer}
-use Rattle.evaluation.specs.Problem.{Prob}
+use Rattle.search.specs.declared.Outcome.{Outcome}
+use Rattle.search.specs.Answers.{verdictCode, refusalCode, outcomeCode}
+use Rattle.evaluation.specs.Problem.{Prob, problem}
+use Rattle.evaluation.specs.Readers.{Chain}
+use Rattle.evaluation.specs.inner.Evaluation.{Fills}
+use Rattle.evaluation.specs.promises.Determined.{fill-determined, index-readers-determined}
+use Rattle.search.specs.inner.Run.{Prepared}
 use Rattle.evaluation.specs.laws.Lists.{lists-unique}
 use Rattle.search.specs.Step.{Out, goes, blocked, Follows, Follows.inverse, Follows.consistent, Follows.nothing, Step, Step.none-left, Step.followed}
 use Rattle.search.specs.Run.{End, sets, stuck, short, Walk, Walk.arrives, Walk.unserved, Walk.stops, Walk.onward, Move, Move.no-word, Move.from-root, Run, Run.model, Run.spent, Run.ended, Run.moved, Run.held, Whole, Whole.closed, Whole.searched}
@@ -179,3 +187,30 @@ pub run-determined :
     → Called s start ws B out′ a′
     → (out ≡ out′) × (a ≡ a′)
 run-determined s start ws B out out′ a a′ c c′ = let same = called-unique c c′ in (same .values, same .answers)
+
+-- of `run_one`
+pub run-one-determined :
+    (s start ws : List ℕ) (B : ℕ) (out out′ : List ℕ) (a a′ : Answer)
+    → Called s start ws B out a
+    → Called s start ws B out′ a′
+    → (out ≡ out′) × (a ≡ a′)
+run-one-determined = run-determined
+
+-- of `prepare`: pairs and answer; of the index the nodes of every chain, as `index-readers-determined` says
+pub prepare-determined :
+    (s los his los′ his′ slots′ los″ his″ slots″ : List ℕ) (r r′ : Bool)
+    → Prepared s los′ his′ slots′ r × Fills s los his los′ his′
+    → Prepared s los″ his″ slots″ r′ × Fills s los his los″ his″
+    → ((los′ ≡ los″) × (his′ ≡ his″)) × (r ≡ r′) × ((m : ℕ) (l l′ : List ℕ) → m < problem s .nodes → Chain slots′ (getD slots′ (4 * m) 0) l → Chain slots″ (getD slots″ (4 * m) 0) l′ → l ≡ l′)
+prepare-determined s los his los′ his′ slots′ los″ his″ slots″ r r′ p q =
+    (fill-determined s los his los′ his′ los″ his″ (p .1) (q .1), decides-unique _ r r′ (p .0 .decided) (q .0 .decided), index-readers-determined s slots′ slots″ (p .0 .indexed) (q .0 .indexed))
+
+-- of the codes of an answer
+pub verdict-code-determined : (o : Outcome) (r r′ : ℕ) → r ≡ verdictCode o → r′ ≡ verdictCode o → r ≡ r′
+verdict-code-determined o r r′ e e′ = e ∙ sym e′
+
+pub refusal-code-determined : (why : Refusal) (r r′ : ℕ) → r ≡ refusalCode (why .number) (why .place) → r′ ≡ refusalCode (why .number) (why .place) → r ≡ r′
+refusal-code-determined why r r′ e e′ = e ∙ sym e′
+
+pub outcome-code-determined : (o : Outcome) (r r′ : ℕ) → r ≡ outcomeCode o → r′ ≡ outcomeCode o → r ≡ r′
+outcome-code-determined o r r′ e e′ = e ∙ sym e′

@@ -14,9 +14,9 @@ use Rattle.problem.specs.Refusals.{refusal, firstOf, _then_, numberOf, checked}
 use Rattle.problem.specs.laws.First.{then-each, then-refused, then-accepted, first-of-each}
 use Rattle.problem.specs.promises.Numbers.{numbered}
 use Rattle.search.specs.Answers.{answerWords}
-use Rattle.search.specs.Batch.{answersFault, listsFault, tapeFault, roomFault, batchRefusals}
-use Rattle.search.specs.promises.Accepted.{answers-right}
-use Rattle.search.specs.promises.Batch.{batch-found, batch-determined}
+use Rattle.batches.specs.Batch.{answersFault, listsFault, tapeFault, roomFault, batchRefusals}
+use Rattle.batches.specs.promises.Accepted.{answers-right}
+use Rattle.batches.specs.promises.Batch.{batch-found, batch-determined}
 use Rattle.walumpeh.specs.Codes.{checkedCode, tooShort}
 use Rattle.walumpeh.specs.Batches.{BatchCode, BatchCode.told}
 
