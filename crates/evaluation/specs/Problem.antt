@@ -5,9 +5,9 @@ use mathlib.Core.List.{List}
 use Prim.Native.Nat.{ℕ, zero, suc}
 use lib.Dec.{ltb}
 use lib.ListN.{getD, set, replicate}
-use Rattle.operators.specs.declared.fixed.Pair.{Pair}
+use Rattle.fixed.specs.declared.Pair.{Pair}
 use Rattle.operators.specs.Table.{kindOf, shapeOf}
-use Rattle.operators.specs.Fixed.{pair, pairOf}
+use Rattle.fixed.specs.Fixed.{pair, pairOf}
 use Rattle.problem.specs.Layout.{nodeCount, rootCount, nodeAt, rootAt}
 use Rattle.picking.specs.declared.spot.Three.{Three}
 use Rattle.picking.specs.declared.spot.Spot.{Spot}

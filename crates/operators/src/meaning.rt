@@ -13,7 +13,7 @@ pub struct Op {
 }
 
 // w ones.
-pub(crate) fn ones(w: u32) -> u64
+pub fn ones(w: u32) -> u64
     requires { ⌜ w ≤ 64 ⌝ }
     ensures { λ r. ⌜ r ≡ 2 ^ w - 1 ⌝ }
 {

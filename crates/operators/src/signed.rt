@@ -24,7 +24,7 @@ fn turn(a: u64, w: u32) -> u64
 }
 
 // Whether a is below b as signed words.
-pub(crate) fn less_signed(a: u64, b: u64, w: u32) -> bool
+pub fn less_signed(a: u64, b: u64, w: u32) -> bool
     requires { ⌜ (1 ≤ w) × (w ≤ 64) × (a < 2 ^ w) × (b < 2 ^ w) ⌝ }
     ensures { λ r. ⌜ r ≡ signedLess w a b ⌝ }
 {

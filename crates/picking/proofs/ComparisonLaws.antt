@@ -9,8 +9,8 @@ use borrow.Author.Tests.{ltb-true, ltb-false, eqb-true, eqb-false, lt-ltb, le-lt
 use Rattle.words.specs.Agree.{Agrees, Within}
 use Rattle.words.specs.laws.Agree.{agrees-lt, agrees-only}
 use Rattle.operators.specs.Meaning.{flag}
-use Rattle.operators.specs.Fixed.{pair}
-use Rattle.operators.specs.laws.Sound.{lo-agrees, hi-agrees}
+use Rattle.fixed.specs.Fixed.{pair}
+use Rattle.fixed.specs.laws.Sound.{lo-agrees, hi-agrees}
 use Rattle.picking.specs.declared.boxes.Set.{Set}
 use Rattle.picking.specs.inner.Boxes.{Solves, SomeAgreeing}
 use Rattle.picking.specs.inner.Asks.{joint}

@@ -11,10 +11,10 @@ use Rattle.words.specs.laws.Bits.{lt-or-ge}
 use Rattle.words.specs.inner.Words.{Top}
 use Rattle.words.specs.laws.Zeros.{top-lt}
 use Rattle.operators.specs.Meaning.{flag, sign, signedLess, signedShift, extended}
-use Rattle.operators.specs.Fixed.{pair, signOver}
-use Rattle.operators.specs.inner.Ready.{Ternary}
-use Rattle.operators.specs.promises.Forced.{signed-least, signed-most}
-use Rattle.operators.specs.laws.Sound.{from-least, upto-most}
+use Rattle.fixed.specs.Fixed.{pair, signOver}
+use Rattle.fixed.specs.inner.Pairs.{Ternary}
+use Rattle.fixed.specs.promises.Forced.{signed-least, signed-most}
+use Rattle.fixed.specs.laws.Sound.{from-least, upto-most}
 use Rattle.operators.specs.laws.Signed.{turned, halves, Low, High, low-of, high-of, low-or-high, signed-order, ashr-low, ashr-high, ashr-not, ashr-keeps, ashr-lt, not-high}
 use Rattle.picking.specs.declared.boxes.Set.{Set}
 use Rattle.picking.specs.declared.boxes.Set.the-variants.{One, Many}

@@ -16,8 +16,8 @@ use Rattle.operators.specs.Table.{kindOf, row, shapeOf, RuleMet}
 use Rattle.operators.specs.laws.Table.{evenly, even-widths}
 use Rattle.operators.specs.laws.Meaning.{even-two}
 use Rattle.operators.specs.Meaning.{meaning}
-use Rattle.operators.specs.Fixed.{pair}
-use Rattle.operators.specs.inner.Ready.{Ternary}
+use Rattle.fixed.specs.Fixed.{pair}
+use Rattle.fixed.specs.inner.Pairs.{Ternary}
 use Rattle.picking.specs.declared.spot.Three.{Three}
 use Rattle.picking.specs.declared.spot.Spot.{Spot}
 use Rattle.picking.specs.declared.boxes.Set.{Set}

@@ -10,8 +10,8 @@ use crate::unions::Union;
 ghost use mathlib.Core.Path.{_≡_};
 ghost use Prim.Native.Nat.{_-_, _^_, _≤_, _<_, min};
 ghost use Rattle.operators.specs.Meaning.{flag, signedLess, signedShift, extended};
-ghost use Rattle.operators.specs.Fixed.{pair};
-ghost use Rattle.operators.specs.inner.Ready.{Ternary};
+ghost use Rattle.fixed.specs.Fixed.{pair};
+ghost use Rattle.fixed.specs.inner.Pairs.{Ternary};
 ghost use Rattle.operators.specs.laws.Signed.{turned};
 ghost use Rattle.picking.specs.inner.Boxes.{Solves, Some, SomeAgreeing};
 ghost use Rattle.picking.specs.inner.Asks.{Word, Folded, joint};
@@ -95,9 +95,9 @@ pub(crate) fn consistent_slt(i: u32, w: u32, l: u64, h: u64, t: u64) -> Set
     ensures { λ r. ⌜ Solves w (λ v. SomeAgreeing l h (λ s. flag (signedLess w (joint i v s .a) (joint i v s .b)) ≡ t)) r ⌝ }
 {
     if i as u64 == t {
-        return inverse_slt(i, w, operators::sign_over(h, l, w), t);
+        return inverse_slt(i, w, fixed::sign_over(h, l, w), t);
     }
-    inverse_slt(i, w, operators::sign_over(l, h, w), t)
+    inverse_slt(i, w, fixed::sign_over(l, h, w), t)
 }
 
 // ---- arithmetic shift: the sign stays, so a target with its sign set goes by complements

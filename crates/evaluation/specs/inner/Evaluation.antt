@@ -6,9 +6,9 @@ use lib.Dec.{ltb}
 use lib.ListN.{length, getD}
 use Rattle.operators.specs.declared.meaning.Op.{Op}
 use Rattle.operators.specs.Table.{kindOf, shapeOf}
-use Rattle.operators.specs.inner.Ready.{Ternary, PairsReady}
-use Rattle.operators.specs.declared.fixed.Pair.{Pair}
-use Rattle.operators.specs.Fixed.{pair, pairOf}
+use Rattle.fixed.specs.inner.Pairs.{Ternary, PairsReady}
+use Rattle.fixed.specs.declared.Pair.{Pair}
+use Rattle.fixed.specs.Fixed.{pair, pairOf}
 use Rattle.problem.specs.declared.layout.Node.{Node}
 use Rattle.problem.specs.declared.Checked.the-variants.{Accepted}
 use Rattle.problem.specs.Layout.{widthAt}

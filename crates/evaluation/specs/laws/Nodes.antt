@@ -7,14 +7,15 @@ use native.Mathlib.Nat.{lt-of-le-of-lt}
 use lib.ListN.{getD}
 use Rattle.words.specs.Agree.{Within}
 use Rattle.words.specs.laws.Agree.{within-le}
-use Rattle.operators.specs.declared.fixed.Pair.{Pair}
+use Rattle.fixed.specs.declared.Pair.{Pair}
 use Rattle.operators.specs.declared.meaning.Op.{Op}
 use Rattle.operators.specs.Table.{kindOf, shapeOf}
 use Rattle.operators.specs.Meaning.{meaning, Fit}
 use Rattle.operators.specs.laws.Meaning.{fit-used, meaning-lt}
-use Rattle.operators.specs.Fixed.{pair, pairOf}
-use Rattle.operators.specs.inner.Ready.{Used, Ternary, Agreeing, Ready, PairsReady}
-use Rattle.operators.specs.laws.Sound.{sound, pair-whole, agrees-self}
+use Rattle.fixed.specs.Fixed.{pair, pairOf}
+use Rattle.operators.specs.inner.Ready.{Used, Ready}
+use Rattle.fixed.specs.inner.Pairs.{Ternary, Agreeing, PairsReady}
+use Rattle.fixed.specs.laws.Sound.{sound, pair-whole, agrees-self}
 use Rattle.picking.specs.declared.spot.Three.{Three}
 use Rattle.picking.specs.Spot.{at}
 use Rattle.evaluation.specs.Problem.{Prob, Pairs, three, byKind, count, arg, Variable, spotOf, zeros, noPairs, gives, valueOf, derived, pairAt}
@@ -199,7 +200,7 @@ module _ (P : Prob) (g : Good P) (n : ℕ) (l : n < P .nodes) where
     ordered-at =
         used-of (count P n) (λ j. Within (at los j) (at his j)) (λ j b. rw (at-column P _ n j b, at-column P _ n j b) (h j b .ordered))
 
-    -- what `operators::pair_of` asks
+    -- what `fixed::pair_of` asks
     pub pairs-ready :
         2 ≤ P .kind n
         → PairsReady (opAt P n) (pair (los .a) (his .a)) (pair (los .b) (his .b)) (pair (los .c) (his .c))

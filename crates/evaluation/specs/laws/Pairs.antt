@@ -10,9 +10,9 @@ use native.Mathlib.Decide.{ℕ-discrete}
 use lib.ListN.{length, getD, set, length-set, replicate, length-replicate}
 use lib.Seq.{getD-set-same, getD-set-other, lt-length-set}
 use Rattle.words.specs.laws.Agree.{agrees-lt}
-use Rattle.operators.specs.declared.fixed.Pair.{Pair}
-use Rattle.operators.specs.Fixed.{pair}
-use Rattle.operators.specs.inner.Ready.{Ternary, Agreeing}
+use Rattle.fixed.specs.declared.Pair.{Pair}
+use Rattle.fixed.specs.Fixed.{pair}
+use Rattle.fixed.specs.inner.Pairs.{Ternary, Agreeing}
 use Rattle.evaluation.specs.Problem.{Prob, Pairs, zeros, noPairs, arg, pairAt, fillUp, pairs}
 use Rattle.evaluation.specs.Values.{Evaluated, VariablesAgree, NodesAgree}
 use Rattle.evaluation.specs.inner.Good.{Good, Held}

@@ -11,9 +11,10 @@ use borrow.Author.Tests.{ltb-true}
 use Rattle.operators.specs.Table.{kindCount, kinds, kindOf, shape, shapeOf}
 use Rattle.operators.specs.Meaning.{meaning}
 use Rattle.operators.specs.laws.Meaning.{fit-used, meaning-known}
-use Rattle.operators.specs.declared.fixed.Pair.{Pair}
-use Rattle.operators.specs.Fixed.{pair}
-use Rattle.operators.specs.inner.Ready.{Ready, Ternary}
+use Rattle.fixed.specs.declared.Pair.{Pair}
+use Rattle.fixed.specs.Fixed.{pair}
+use Rattle.operators.specs.inner.Ready.{Ready}
+use Rattle.fixed.specs.inner.Pairs.{Ternary}
 use Rattle.problem.specs.declared.layout.Node.{Node}
 use Rattle.picking.specs.declared.spot.Three.{Three}
 use Rattle.picking.specs.Spot.{at}

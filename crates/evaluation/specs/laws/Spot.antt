@@ -3,9 +3,10 @@ use mathlib.Core.List.{List}
 use Prim.Native.Nat.{ℕ, _≤_, _<_}
 use lib.ListN.{getD}
 use Rattle.operators.specs.declared.meaning.Op.{Op}
-use Rattle.operators.specs.declared.fixed.Pair.{Pair}
-use Rattle.operators.specs.Fixed.{pair}
-use Rattle.operators.specs.inner.Ready.{Ternary, Agreeing, Ready, PairsReady}
+use Rattle.fixed.specs.declared.Pair.{Pair}
+use Rattle.fixed.specs.Fixed.{pair}
+use Rattle.operators.specs.inner.Ready.{Ready}
+use Rattle.fixed.specs.inner.Pairs.{Ternary, Agreeing, PairsReady}
 use Rattle.picking.specs.declared.spot.Spot.{Spot}
 use Rattle.picking.specs.Spot.{at, Fair}
 use Rattle.evaluation.specs.Problem.{Prob, Pairs, count, arg, spotOf, spot, pairs}
@@ -25,7 +26,7 @@ module _ (P : Prob) (g : Good P) (n : ℕ) (l : n < P .nodes) (k : 2 ≤ P .kind
   here : GoodNode P n
   here = g .node n l
 
-  -- pairs of the operands' widths: what `operators::pair_of` asks
+  -- pairs of the operands' widths: what `fixed::pair_of` asks
   pub spot-pairs-ready :
       ((i : ℕ) → i < count P n → Ternary (P .width (arg P n i)) (pairIn w (arg P n i)))
       → PairsReady (opOf (spotOf P w vs n)) (pairOn (spotOf P w vs n) 0) (pairOn (spotOf P w vs n) 1) (pairOn (spotOf P w vs n) 2)

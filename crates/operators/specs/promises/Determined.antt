@@ -2,13 +2,10 @@
 use mathlib.Core.Path.{_≡_, sym, _∙_}
 use mathlib.Core.Bool.{Bool}
 use Prim.Native.Nat.{ℕ, _+_, _-_, _*_, _/_, _%_, _^_}
-use Rattle.operators.specs.declared.fixed.Pair.{Pair}
-use Rattle.operators.specs.declared.meaning.Op.{Op}
 use Rattle.operators.specs.declared.table.Rule.{Rule}
 use Rattle.operators.specs.declared.table.Shape.{Shape}
-use Rattle.operators.specs.Table.{kindOf, shapeOf, ruleHolds}
+use Rattle.operators.specs.Table.{shapeOf, ruleHolds}
 use Rattle.operators.specs.Meaning.{flag, signedLess, signedShift, extended, quotient}
-use Rattle.operators.specs.Fixed.{signOver, pairOf}
 
 -- every contract here is an equation
 equal : {A : Type 0} {v r s : A} → r ≡ v → s ≡ v → r ≡ s
@@ -22,6 +19,9 @@ operand-count-determined kind r s = equal
 
 pub rule-holds-determined : (rule : Rule) (w wa wb wc b : ℕ) (r s : Bool) → r ≡ ruleHolds rule w wa wb wc b → s ≡ ruleHolds rule w wa wb wc b → r ≡ s
 rule-holds-determined rule w wa wb wc b r s = equal
+
+pub ones-determined : (w r s : ℕ) → r ≡ 2 ^ w - 1 → s ≡ 2 ^ w - 1 → r ≡ s
+ones-determined w r s = equal
 
 pub flip-determined : (a w r s : ℕ) → r ≡ (2 ^ w - 1) - a → s ≡ (2 ^ w - 1) - a → r ≡ s
 flip-determined a w r s = equal
@@ -50,6 +50,9 @@ right-determined a b r s = equal
 pub join-determined : (a b k r s : ℕ) → r ≡ a * 2 ^ k + b → s ≡ a * 2 ^ k + b → r ≡ s
 join-determined a b k r s = equal
 
+pub less-signed-determined : (a b w : ℕ) (r s : Bool) → r ≡ signedLess w a b → s ≡ signedLess w a b → r ≡ s
+less-signed-determined a b w r s = equal
+
 pub below-signed-determined : (a b w r s : ℕ) → r ≡ flag (signedLess w a b) → s ≡ flag (signedLess w a b) → r ≡ s
 below-signed-determined a b w r s = equal
 
@@ -58,10 +61,3 @@ right-signed-determined a b w r s = equal
 
 pub quotient-determined : (a b w r s : ℕ) → r ≡ quotient w a b → s ≡ quotient w a b → r ≡ s
 quotient-determined a b w r s = equal
-
-pub sign-over-determined : (a b w r s : ℕ) → r ≡ signOver w a b → s ≡ signOver w a b → r ≡ s
-sign-over-determined a b w r s = equal
-
-pub pair-of-determined : (op : Op) (p q r v u : Pair) → v ≡ pairOf (kindOf (op .kind)) (op .width) (op .wa) (op .wb) (op .low) p q r
-    → u ≡ pairOf (kindOf (op .kind)) (op .width) (op .wa) (op .wb) (op .low) p q r → v ≡ u
-pair-of-determined op p q r v u = equal

@@ -18,10 +18,10 @@ use Rattle.words.specs.laws.Mul.{solve}
 use Rattle.words.specs.inner.Words.{over}
 use Rattle.words.specs.Pick.{Pick, above}
 use Rattle.words.specs.laws.Pick.{pick-same}
-use Rattle.operators.specs.declared.fixed.Pair.{Pair}
+use Rattle.fixed.specs.declared.Pair.{Pair}
 use Rattle.operators.specs.Table.{add, slt, ashr, sext, udiv}
 use Rattle.operators.specs.Meaning.{flag}
-use Rattle.operators.specs.Fixed.{pair, pairOf}
+use Rattle.fixed.specs.Fixed.{pair, pairOf}
 use Rattle.picking.specs.declared.spot.Spot.{Spot}
 use Rattle.picking.specs.Spot.{at, positions, Inverse, Consistent, Essential}
 use Rattle.picking.specs.laws.Tests.{agrees-to, inverseB, inverse-to, inverse-back, consistentB, consistent-to, consistent-back}

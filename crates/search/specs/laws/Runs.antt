@@ -13,8 +13,8 @@ use lib.Dec.{T}
 use lib.Text.{eqt, eqt-refl}
 use lib.Seq.{getD-set-same, getD-set-other}
 use Rattle.words.specs.laws.Agree.{within-hi, within-le}
-use Rattle.operators.specs.declared.fixed.Pair.{Pair}
-use Rattle.operators.specs.inner.Ready.{Agreeing}
+use Rattle.fixed.specs.declared.Pair.{Pair}
+use Rattle.fixed.specs.inner.Pairs.{Agreeing}
 use Rattle.search.specs.declared.Verdict.{Verdict}
 use Rattle.search.specs.declared.Outcome.{Outcome}
 use Rattle.search.specs.declared.Answer.{Answer}

@@ -9,7 +9,7 @@ use lib.Dec.{T, leb, leb→le}
 use lib.Ieee.Fits.{and-l, and-r}
 use lib.ListN.{length, getD, drop, length-drop}
 use Rattle.operators.specs.Table.{kindCount, Kind, variable as no-kind, kinds, shape, shapeOf}
-use Rattle.operators.specs.declared.fixed.Pair.{Pair}
+use Rattle.fixed.specs.declared.Pair.{Pair}
 use Rattle.search.specs.declared.Answer.{Answer}
 use Rattle.search.specs.Answers.{said}
 use Rattle.evaluation.specs.Problem.{Prob, arg, Variable, pairLo, pairHi}

@@ -12,7 +12,7 @@ use lib.ListN.{getD}
 use lib.Pow.{pow-mono}
 use borrow.Author.Tests.{lt-ltb, le-ltb}
 use Rattle.words.specs.laws.Agree.{agrees-of-within, agrees-lt, within-le, within-zero}
-use Rattle.operators.specs.declared.fixed.Pair.{Pair}
+use Rattle.fixed.specs.declared.Pair.{Pair}
 use Rattle.operators.specs.Table.{shapeOf}
 use Rattle.problem.specs.declared.layout.Node.{Node}
 use Rattle.problem.specs.declared.Checked.the-variants.{Accepted}

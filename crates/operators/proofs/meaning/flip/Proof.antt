@@ -2,7 +2,7 @@
 use borrow.Author.Needs.{needs}
 use mathlib.Core.Path.{_∙_}
 use native.Mathlib.Omega.{arith}
-use Rattle.operators.proofs.Parts.{flipped}
+use Rattle.operators.specs.laws.Cuts.{flipped}
 use Rattle.operators.proofs.meaning.flip.Statement.{statement}
 use Rattle.operators.proofs.meaning.flip.Tie as tie
 

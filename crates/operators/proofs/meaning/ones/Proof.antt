@@ -2,7 +2,7 @@
 use borrow.Author.Needs.{needs}
 use mathlib.Core.Path.{_∙_}
 use native.Mathlib.Omega.{arith}
-use Rattle.operators.proofs.Parts.{ones-cut}
+use Rattle.operators.specs.laws.Cuts.{ones-cut}
 use Rattle.operators.proofs.meaning.ones.Statement.{statement}
 use Rattle.operators.proofs.meaning.ones.Tie as tie
 

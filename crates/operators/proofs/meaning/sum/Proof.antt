@@ -3,7 +3,7 @@ use borrow.Author.Needs.{needs}
 use mathlib.Core.Path.{_∙_}
 use Prim.Native.Nat.{_+_}
 use native.Mathlib.Omega.{arith}
-use Rattle.operators.proofs.Parts.{recut}
+use Rattle.operators.specs.laws.Cuts.{recut}
 use Rattle.operators.proofs.meaning.sum.Statement.{statement}
 use Rattle.operators.proofs.meaning.sum.Tie as tie
 

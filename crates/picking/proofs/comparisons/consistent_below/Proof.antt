@@ -3,8 +3,8 @@ use mathlib.Core.Path.{refl}
 use lib.Dec.{ltb}
 use borrow.Author.Needs.{needs}
 use Rattle.words.specs.laws.Agree.{lo-within, within-hi, within-le}
-use Rattle.operators.specs.Fixed.{pair}
-use Rattle.operators.specs.laws.Sound.{lo-agrees, hi-agrees}
+use Rattle.fixed.specs.Fixed.{pair}
+use Rattle.fixed.specs.laws.Sound.{lo-agrees, hi-agrees}
 use Rattle.picking.proofs.ComparisonLaws.{least-by, most-by}
 use Rattle.picking.proofs.comparisons.consistent_below.Statement.{statement}
 use Rattle.picking.proofs.comparisons.consistent_below.Tie as tie

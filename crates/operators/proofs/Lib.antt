@@ -1,3 +1,0 @@
--- Laws for the proofs of this crate's functions.
-pub mod Parts
-pub mod Pairs
