@@ -12,10 +12,10 @@ use operators::right;
 use operators::right_signed;
 use operators::sum;
 ghost use mathlib.Core.Path.{_≡_};
-ghost use Prim.Native.Nat.{_^_, _≤_, _<_};
+ghost use Prim.Native.Nat.{_/_, _%_, _^_, _≤_, _<_};
 ghost use Rattle.operators.specs.Table.{kindOf};
 ghost use Rattle.operators.specs.Meaning.{signedLess};
-ghost use Rattle.fixed.specs.Fixed.{anyOf, known, lowest, upTo, carries, sumPair, apart, eqPair, belowPair, shlPair, lshrPair, itePair, signOver, sltPair, ashrPair, sextPair, udivPair, pairOf};
+ghost use Rattle.fixed.specs.Fixed.{pair, anyOf, known, lowest, upTo, carries, sumPair, apart, eqPair, belowPair, shlPair, lshrPair, itePair, signOver, sltPair, ashrPair, sextPair, udivPair, pairOf};
 ghost use Rattle.fixed.specs.inner.Pairs.{Ternary, PairsReady};
 
 // A ternary word: lo has no bit that hi lacks, and a bit is fixed where the two agree.
@@ -173,6 +173,17 @@ fn if_pair(p: Pair, q: Pair, r: Pair) -> Pair
     }
 }
 
+// extract: the same part of both.
+fn part_pair(p: Pair, low: u32, w: u32) -> Pair
+    requires { ⌜ (1 ≤ w) × (w ≤ 64) × (low < 64) ⌝ }
+    ensures { λ r. ⌜ r ≡ pair (p .lo / 2 ^ low % 2 ^ w) (p .hi / 2 ^ low % 2 ^ w) ⌝ }
+{
+    Pair {
+        lo: part(p.lo, low, w),
+        hi: part(p.hi, low, w),
+    }
+}
+
 // The sign of a over the other bits of b: of a pair's hi and lo its signed least value, of its lo and hi its greatest.
 pub fn sign_over(a: u64, b: u64, w: u32) -> u64
     requires { ⌜ (1 ≤ w) × (w ≤ 64) ⌝ }
@@ -278,10 +289,7 @@ pub fn pair_of(op: Op, p: Pair, q: Pair, r: Pair) -> Pair
             lo: join(p.lo, q.lo, k),
             hi: join(p.hi, q.hi, k),
         },
-        13 => Pair {
-            lo: part(p.lo, low, w),
-            hi: part(p.hi, low, w),
-        },
+        13 => part_pair(p, low, w),
         14 => slt_pair(p, q, j),
         15 => ashr_pair(p, q, w),
         16 => sext_pair(p, j, w),

@@ -56,11 +56,8 @@ join-requires c κs =
 join-requires-2 : tie.Need-join-requires-2
 join-requires-2 c κs = join-asks _ _ _ _ _ (c .before .before .pre .ready .wide) (rw (c .before .match .keys11) at (c .before .before .pre .ready .fit))
 
-part-requires : tie.Need-part-requires
-part-requires c κs = (search needs, search needs, part-asks _ _ _ _ (search needs) (rw (c .match .keys12) at (c .before .pre .ready .fit)))
-
-part-requires-2 : tie.Need-part-requires-2
-part-requires-2 c κs = (search needs, search needs, part-asks _ _ _ _ (search needs) (rw (c .before .match .keys12) at (c .before .before .pre .ready .fit)))
+part-pair-requires : tie.Need-part-pair-requires
+part-pair-requires c κs = (search needs, search needs, part-asks _ _ _ _ (search needs) (rw (c .match .keys12) at (c .before .pre .ready .fit)))
 
 slt-pair-requires : tie.Need-slt-pair-requires
 slt-pair-requires c κs =
@@ -121,9 +118,7 @@ returns-11 : tie.Need-returns-11
 returns-11 c = rw (c .before .before .match .keys11) (ap₂ pair (c .before .join .ensures) (c .join2 .ensures))
 
 returns-12 : tie.Need-returns-12
-returns-12 c =
-    rw (c .before .before .match .keys12)
-    (ap₂ pair (c .before .part .ensures) (c .part2 .ensures))
+returns-12 c = rw (c .before .match .keys12) (c .part-pair .ensures)
 
 returns-13 : tie.Need-returns-13
 returns-13 c = rw (c .before .match .keys13) (c .slt-pair .ensures)
@@ -157,8 +152,7 @@ pair-of-spec =
     if-pair-requires
     join-requires
     join-requires-2
-    part-requires
-    part-requires-2
+    part-pair-requires
     slt-pair-requires
     ashr-pair-requires
     sext-pair-requires
