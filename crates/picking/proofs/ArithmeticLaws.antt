@@ -10,12 +10,12 @@ use Rattle.words.specs.inner.Words.{WordInverse, Tail}
 use Rattle.words.specs.laws.Modular.{same-sub, same-add, same-fewer}
 use Rattle.words.specs.laws.Mul.{MulInverse, mul-to, mul-back, mul-none, mul-zero-gives}
 use Rattle.words.specs.laws.Consist.{reach-some, some-reach}
-use Rattle.picking.specs.declared.boxes.Set.{Set}
-use Rattle.picking.specs.declared.boxes.Set.the-variants.{Many}
-use Rattle.picking.specs.declared.unions.Union.the-variants.{Low}
-use Rattle.picking.specs.inner.Boxes.{Solves, Every, Some}
+use Rattle.boxes.specs.declared.Set.{Set}
+use Rattle.boxes.specs.declared.Set.the-variants.{Many}
+use Rattle.boxes.specs.declared.unions.Union.the-variants.{Low}
+use Rattle.boxes.specs.inner.Boxes.{Solves, Every, Some}
 use Rattle.picking.specs.inner.Asks.{Sized}
-use Rattle.picking.proofs.BoxLaws.{solves-by, solves-all}
+use Rattle.boxes.specs.laws.Solves.{solves-by, solves-all}
 
 -- ---- sums and products do not mind the order
 pub sum-comm : (w x y : ℕ) → (x + y) % 2 ^ w ≡ (y + x) % 2 ^ w

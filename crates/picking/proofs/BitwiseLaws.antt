@@ -10,10 +10,10 @@ use Rattle.words.specs.Bits.{bit}
 use Rattle.words.specs.laws.Bits.{bit-lt, bit-ext, bit-high, bit-not, bit-and, bit-or, bit-xor, lt-or-ge}
 use Rattle.words.specs.Agree.{Agrees, Within}
 use Rattle.words.specs.laws.Agree.{within-of-bits, bits-of-within}
-use Rattle.picking.specs.declared.boxes.Set.{Set}
-use Rattle.picking.specs.inner.Boxes.{Solves, SomeAgreeing}
+use Rattle.boxes.specs.declared.Set.{Set}
+use Rattle.boxes.specs.inner.Boxes.{Solves, SomeAgreeing}
 use Rattle.picking.specs.inner.Asks.{Sized}
-use Rattle.picking.proofs.BoxLaws.{solves-by}
+use Rattle.boxes.specs.laws.Solves.{solves-by}
 
 -- the complement of a word, cut to fewer bits
 pub cut-not : {w t : ℕ} → Sized w t → ((2 ^ 64 - 1) - t) % 2 ^ w ≡ (2 ^ w - 1) - t

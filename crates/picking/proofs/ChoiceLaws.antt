@@ -12,10 +12,10 @@ use Rattle.operators.specs.Meaning.{choose}
 use Rattle.picking.specs.declared.spot.Three.{Three}
 use Rattle.picking.specs.Spot.{at, put}
 use Rattle.picking.specs.laws.Positions.{at-put-same, at-put-other}
-use Rattle.picking.specs.declared.boxes.Set.{Set}
-use Rattle.picking.specs.inner.Boxes.{Solves, Every}
+use Rattle.boxes.specs.declared.Set.{Set}
+use Rattle.boxes.specs.inner.Boxes.{Solves, Every}
 use Rattle.picking.specs.inner.Asks.{branchOf, Had, HadIf}
-use Rattle.picking.proofs.BoxLaws.{solves-by, solves-all, same-by}
+use Rattle.boxes.specs.laws.Solves.{solves-by, solves-all, same-by}
 
 abbrev pub chosen : Three → ℕ
 chosen q = choose (q .a) (q .b) (q .c)

@@ -11,10 +11,10 @@ use Rattle.words.specs.laws.Agree.{agrees-lt, agrees-only}
 use Rattle.operators.specs.Meaning.{flag}
 use Rattle.fixed.specs.Fixed.{pair}
 use Rattle.fixed.specs.laws.Sound.{lo-agrees, hi-agrees}
-use Rattle.picking.specs.declared.boxes.Set.{Set}
-use Rattle.picking.specs.inner.Boxes.{Solves, SomeAgreeing}
+use Rattle.boxes.specs.declared.Set.{Set}
+use Rattle.boxes.specs.inner.Boxes.{Solves, SomeAgreeing}
 use Rattle.picking.specs.inner.Asks.{joint}
-use Rattle.picking.proofs.BoxLaws.{solves-by}
+use Rattle.boxes.specs.laws.Solves.{solves-by}
 
 -- ---- what a flag says
 flag-one : (b : Bool) → flag b ≡ 1 → b ≡ true

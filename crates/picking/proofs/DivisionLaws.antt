@@ -1,18 +1,16 @@
 -- Division: which dividends and which divisors give a quotient.
 use mathlib.Core.Path.{_≡_, refl, sym, ap, _∙_}
-use mathlib.Core.Logic.{⊎-elim}
 use Prim.Native.Nat.{ℕ, zero, suc, _+_, _-_, _*_, _/_, _%_, _^_, _≤_, _<_, zero-le}
-use native.Mathlib.Nat.{le-refl, le-trans, le-of-eq, le-of-lt, lt-of-le-of-lt, lt-of-lt-of-le, not-suc-le-zero, pos-of-ne-zero, div-eq-of-lt, div-eq-of-lt-le, div-mul-le-self, div-add-mod, div-le-self, lt-div-mul-add, le-div-iff-mul-le, div-lt-iff-lt-mul, mod-lt, mul-le-mul, mul-le-mul-left, mul-div-cancel, mul-comm, zero-div, div-one}
+use native.Mathlib.Nat.{le-refl, le-trans, le-of-eq, le-of-lt, lt-of-le-of-lt, lt-of-lt-of-le, not-suc-le-zero, pos-of-ne-zero, div-eq-of-lt, div-eq-of-lt-le, div-mul-le-self, div-add-mod, div-le-self, lt-div-mul-add, le-div-iff-mul-le, div-lt-iff-lt-mul, mul-le-mul, mul-le-mul-left, mul-div-cancel, mul-comm, zero-div, div-one}
 use native.Mathlib.Omega.{arith}
 use lib.Pow.{pow-pos, pow-mono, ones-lt, le-ones}
-use Rattle.words.specs.laws.Bits.{lt-or-ge}
 use Rattle.operators.specs.Meaning.{quotient}
-use Rattle.picking.specs.declared.boxes.Set.{Set}
-use Rattle.picking.specs.declared.boxes.Set.the-variants.{Many}
-use Rattle.picking.specs.declared.unions.Union.the-variants.{Dividends}
-use Rattle.picking.specs.inner.Boxes.{Solves, Every, Some}
+use Rattle.boxes.specs.declared.Set.{Set}
+use Rattle.boxes.specs.declared.Set.the-variants.{Many}
+use Rattle.boxes.specs.declared.unions.Union.the-variants.{Dividends}
+use Rattle.boxes.specs.inner.Boxes.{Solves, Every, Some}
 use Rattle.picking.specs.inner.Asks.{Short}
-use Rattle.picking.proofs.BoxLaws.{solves-by, solves-all, same-by}
+use Rattle.boxes.specs.laws.Solves.{solves-by, solves-all, same-by}
 
 -- ---- the quotient by a divisor that is not 0
 
@@ -62,44 +60,6 @@ short-lt h l = lt-of-lt-of-le l (pow-mono h)
 
 pub dividend-fits : {w s t : ℕ} → Short w t → s < 2 ^ w → t * s + s < 2 ^ 64
 dividend-fits {w} {s} {t} z h = small-product t s (omega (arith, short-lt (z .short) (z .fits))) (omega (arith, short-lt (z .short) h))
-
--- ---- v has no divisor that takes it to t, so v / t is none
-
--- then none has one that follows before the next multiple of t
-pub gap : (t v u : ℕ) → v / t ≤ v % t → v ≤ u → u < (v / t + 1) * t → u % t < u / t → ⊥
-gap t v u n l b k =
-    let e : u / t ≡ v / t = div-eq-of-lt-le t (le-trans (div-mul-le-self v t) l) b in
-    over (v % t) (u % t) (t * (v / t)) (t * (u / t)) (v / t) (div-add-mod v t) (div-add-mod u t) (ap (λ (n : ℕ). t * n) e) n l (lt-of-lt-of-le k (le-of-eq e))
-  where
-    over : (a b p o s : ℕ) → p + a ≡ v → o + b ≡ u → o ≡ p → s ≤ a → v ≤ u → b < s → ⊥
-    over a b p o s x y z n l k = omega arith
-
--- and there are few of these, of 16 bits
-pub gap-few : (t m v : ℕ) → 0 < t → m < 2 ^ 16 → v ≤ m → v / t ≤ v % t → v / t < 256
-gap-few t m v h f l n =
-    ⊎-elim (λ (k : v / t < 256). k)
-    (λ (k : 256 ≤ v / t).
-    let o : 257 ≤ t = omega (arith, mod-lt v h) in
-    let p : 256 * 257 ≤ v / t * t = mul-le-mul k o in
-    absurd (omega (arith, div-mul-le-self v t)))
-    (lt-or-ge (v / t) 256)
-
--- the next multiple is past v and fits
-pub gap-next : (t v : ℕ) → 0 < t → v < (v / t + 1) * t
-gap-next t v h = lt-of-lt-of-le (lt-div-mul-add {a = v} h) (le-of-eq (omega arith))
-
-pub gap-fits : (t v : ℕ) → 0 < t → t < 2 ^ 16 → v / t ≤ v % t → (v / t + 1) * t < 2 ^ 64
-gap-fits t v h f n =
-    let q : v / t + 1 ≤ 2 ^ 16 = omega (arith, mod-lt v h) in
-    let p : (v / t + 1) * t ≤ 2 ^ 16 * 2 ^ 16 = mul-le-mul q (le-of-lt f) in
-    omega arith
-
--- its quotient is greater, and at most 256
-pub gap-turn : (t m v from : ℕ) → 0 < t → m < 2 ^ 16 → v ≤ m → v / t ≤ v % t → from ≤ v → 256 - (v / t + 1) * t / t < 256 - from / t
-gap-turn t m v from h f l n a =
-    let e : (v / t + 1) * t / t ≡ v / t + 1 = mul-div-cancel (v / t + 1) h in
-    let b : from / t ≤ v / t = le-div-iff-mul-le h .1 (le-trans (div-mul-le-self from t) a) in
-    rw e (omega (arith, gap-few t m v h f l n))
 
 -- ---- the dividend
 pub dividend-none : {w s t m : ℕ} {r : Set} → Short w t → s ≡ 0 → m ≡ 2 ^ w - 1 → Solves 64 (λ v. m ≡ t) r → Solves w (λ v. quotient w v s ≡ t) r

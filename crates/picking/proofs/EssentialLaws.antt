@@ -5,7 +5,7 @@ use mathlib.Core.Logic.{_⊎_, inl, inr, ⊎-elim}
 use Prim.Native.Nat.{ℕ, _-_, _/_, _%_, _^_, _≤_, _<_}
 use native.Mathlib.Nat.{le-of-lt}
 use native.Mathlib.Omega.{arith}
-use lib.Dec.{T, eqb}
+use lib.Dec.{eqb}
 use Rattle.words.specs.declared.found.Found.{Found}
 use Rattle.words.specs.declared.found.Found.the-variants.{At, Nothing}
 use Rattle.words.specs.Agree.{Agrees}
@@ -28,10 +28,6 @@ pub decides-or : (A B : Type 0) (a b : Bool) → Decides A a → Decides B b →
 decides-or A B true b p q = inl p
 decides-or A B false true p q = inr q
 decides-or A B false false p q = ⊎-elim p q
-
-pub decides-is : (a : Bool) → Decides (a ≡ true) a
-decides-is true = refl
-decides-is false = λ e. subst T (sym e) tt
 
 -- ---- of one position, as not, extract and sign extension have: no others can help
 module _ (S : Spot) (F : Fair S) where

@@ -12,12 +12,12 @@ use Rattle.operators.specs.Table.{kindOf}
 use Rattle.operators.specs.Meaning.{meaning}
 use Rattle.picking.specs.declared.spot.Three.{Three}
 use Rattle.picking.specs.declared.spot.Spot.{Spot}
-use Rattle.picking.specs.declared.boxes.Set.{Set}
+use Rattle.boxes.specs.declared.Set.{Set}
 use Rattle.picking.specs.Spot.{at, put, Other, value, heldToPairs, Admitted, Reaches, Fair, Asked}
 use Rattle.picking.specs.laws.Positions.{at-put-same, at-put-other}
-use Rattle.picking.specs.inner.Boxes.{Solves}
+use Rattle.boxes.specs.inner.Boxes.{Solves}
 use Rattle.picking.specs.inner.Asks.{branchOf, Had, HadIf}
-use Rattle.picking.proofs.BoxLaws.{solves-by}
+use Rattle.boxes.specs.laws.Solves.{solves-by}
 use Rattle.picking.proofs.ChoiceLaws.{chosen-at, branch-low, branch-few}
 use Rattle.picking.proofs.SpotLaws.{count-at, rule-at, slot-at, place, wide-at}
 

@@ -9,11 +9,11 @@ use Rattle.words.specs.Bits.{bit}
 use Rattle.words.specs.laws.Bits.{bit-lt, bit-ext, bit-cut, bit-cut-high, bit-shr, bit-shl, bit-shl-low, bit-high, bit-not, split-at, lt-or-ge}
 use Rattle.words.specs.Agree.{Agrees}
 use Rattle.words.specs.laws.Agree.{agrees-lt}
-use Rattle.picking.specs.declared.boxes.Set.{Set}
-use Rattle.picking.specs.inner.Boxes.{Solves, SomeAgreeing}
+use Rattle.boxes.specs.declared.Set.{Set}
+use Rattle.boxes.specs.inner.Boxes.{Solves, SomeAgreeing}
 use Rattle.picking.specs.inner.Asks.{joint, sideOf, partOf, Joined}
 use Rattle.picking.proofs.BitwiseLaws.{cut-not}
-use Rattle.picking.proofs.BoxLaws.{solves-by}
+use Rattle.boxes.specs.laws.Solves.{solves-by}
 
 -- ---- concat: each part of t stands at its position
 

@@ -1,7 +1,6 @@
 -- Laws that only the proofs of this crate cite.
 pub mod ArithmeticLaws
 pub mod BitwiseLaws
-pub mod BoxLaws
 pub mod ChoiceLaws
 pub mod ComparisonLaws
 pub mod DivisionLaws
@@ -12,4 +11,3 @@ pub mod KindLaws
 pub mod ShiftLaws
 pub mod SignedLaws
 pub mod SpotLaws
-pub mod UnionLaws

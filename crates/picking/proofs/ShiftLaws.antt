@@ -12,13 +12,13 @@ use Rattle.words.specs.laws.Mul.{mod-scale}
 use Rattle.words.specs.laws.Shift.{out-left}
 use Rattle.words.specs.inner.Words.{Tail, Top}
 use Rattle.words.specs.laws.Zeros.{tail-lt, tail-unique, top-lt, top-unique}
-use Rattle.picking.specs.declared.boxes.Set.{Set}
-use Rattle.picking.specs.declared.boxes.Set.the-variants.{One, Many}
-use Rattle.picking.specs.declared.unions.Row.the-variants.{Left, Right}
-use Rattle.picking.specs.declared.unions.Union.the-variants.{Several}
-use Rattle.picking.specs.inner.Boxes.{Among, span, Solves, Some}
+use Rattle.boxes.specs.declared.Set.{Set}
+use Rattle.boxes.specs.declared.Set.the-variants.{One, Many}
+use Rattle.boxes.specs.declared.unions.Row.the-variants.{Left, Right}
+use Rattle.boxes.specs.declared.unions.Union.the-variants.{Several}
+use Rattle.boxes.specs.inner.Boxes.{Among, span, Solves, Some}
 use Rattle.picking.specs.inner.Asks.{Sized, joint}
-use Rattle.picking.proofs.BoxLaws.{in-low, low-in, in-word, in-span, span-solves, solves-by}
+use Rattle.boxes.specs.laws.Solves.{in-low, low-in, in-word, in-span, span-solves, solves-by}
 
 -- an amount of w is a value of w bits
 pub grow : (n : ℕ) → n < 2 ^ n

@@ -16,13 +16,13 @@ use Rattle.fixed.specs.inner.Pairs.{Ternary}
 use Rattle.fixed.specs.promises.Forced.{signed-least, signed-most}
 use Rattle.fixed.specs.laws.Sound.{from-least, upto-most}
 use Rattle.operators.specs.laws.Signed.{turned, halves, Low, High, low-of, high-of, low-or-high, signed-order, ashr-low, ashr-high, ashr-not, ashr-keeps, ashr-lt, not-high}
-use Rattle.picking.specs.declared.boxes.Set.{Set}
-use Rattle.picking.specs.declared.boxes.Set.the-variants.{One, Many}
-use Rattle.picking.specs.declared.unions.Row.the-variants.{Right, Mirrored, Ends}
-use Rattle.picking.specs.declared.unions.Union.the-variants.{Several}
-use Rattle.picking.specs.inner.Boxes.{In, mirrored, Bounded, endAt, shiftedTo, Among, Solves, Some, SomeAgreeing}
+use Rattle.boxes.specs.declared.Set.{Set}
+use Rattle.boxes.specs.declared.Set.the-variants.{One, Many}
+use Rattle.boxes.specs.declared.unions.Row.the-variants.{Right, Mirrored, Ends}
+use Rattle.boxes.specs.declared.unions.Union.the-variants.{Several}
+use Rattle.boxes.specs.inner.Boxes.{In, mirrored, Bounded, endAt, shiftedTo, Among, Solves, Some, SomeAgreeing}
 use Rattle.picking.specs.inner.Asks.{Sized, Word, Folded, joint}
-use Rattle.picking.proofs.BoxLaws.{in-span, solves-by, shifted-bounded, in-mirror, mirror-in, mirror-solves, not-not}
+use Rattle.boxes.specs.laws.Solves.{in-span, solves-by, shifted-bounded, in-mirror, mirror-in, mirror-solves, not-not}
 use Rattle.picking.proofs.ComparisonLaws.{less-yes, less-no, yes-less, no-less, least-by, most-by}
 use Rattle.picking.proofs.ShiftLaws.{grow, fit-ring, reach, room, span-back, lshr-span, some-lshr}
 

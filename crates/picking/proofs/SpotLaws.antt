@@ -20,13 +20,13 @@ use Rattle.fixed.specs.Fixed.{pair}
 use Rattle.fixed.specs.inner.Pairs.{Ternary}
 use Rattle.picking.specs.declared.spot.Three.{Three}
 use Rattle.picking.specs.declared.spot.Spot.{Spot}
-use Rattle.picking.specs.declared.boxes.Set.{Set}
+use Rattle.boxes.specs.declared.Set.{Set}
 use Rattle.picking.specs.Spot.{at, put, positions, value, heldToPairs, Admitted, Reaches, Slot, Fair, Asked}
 use Rattle.picking.specs.laws.Positions.{at-put-same, value-used}
-use Rattle.picking.specs.inner.Boxes.{Solves, Chosen, Every, SomeOf, Some, SomeAgreeing}
+use Rattle.boxes.specs.inner.Boxes.{Solves, Chosen, Every, SomeOf, Some, SomeAgreeing}
 use Rattle.picking.specs.inner.Asks.{Short, joint, sideOf, Joined, Meets, Wanted}
 use Rattle.picking.proofs.ArithmeticLaws.{sum-comm}
-use Rattle.picking.proofs.BoxLaws.{solves-by, solves-all}
+use Rattle.boxes.specs.laws.Solves.{solves-by, solves-all}
 
 -- ---- by position
 pub at-rest : (x : Three) (i : ℕ) → (i ≡ 0 → ⊥) → (i ≡ 1 → ⊥) → x .c ≡ at x i

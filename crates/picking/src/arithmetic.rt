@@ -1,11 +1,11 @@
 // Add and mul: the values of an operand that give t, and those that do so with some value of the other.
 use crate::basic;
-use crate::boxes::Set;
-use crate::unions::Union;
+use boxes::Set;
+use boxes::Union;
 ghost use mathlib.Core.Path.{_≡_};
 ghost use mathlib.Core.Bool.{true};
 ghost use Prim.Native.Nat.{_+_, _*_, _%_, _^_, _<_};
-ghost use Rattle.picking.specs.inner.Boxes.{Solves, Some};
+ghost use Rattle.boxes.specs.inner.Boxes.{Solves, Some};
 ghost use Rattle.picking.specs.inner.Asks.{Sized};
 
 // The one value that gives t with s.

@@ -1,16 +1,16 @@
 // The sets that several operators answer, each named by what is in it.
-use crate::boxes::Set;
-use crate::boxes::between;
-use crate::boxes::low_are;
-use crate::boxes::ternary;
-use crate::unions::Row;
-use crate::unions::Union;
+use boxes::Row;
+use boxes::Set;
+use boxes::Union;
+use boxes::between;
+use boxes::low_are;
+use boxes::ternary;
 ghost use mathlib.Core.Path.{_≡_};
 ghost use mathlib.Core.Bool.{true};
 ghost use mathlib.Core.Logic.{_⊎_};
 ghost use Prim.Native.Nat.{_%_, _^_, _≤_, _<_};
 ghost use Rattle.words.specs.Agree.{Agrees};
-ghost use Rattle.picking.specs.inner.Boxes.{Solves, Every};
+ghost use Rattle.boxes.specs.inner.Boxes.{Solves, Every};
 
 // Every value.
 pub(crate) fn all() -> Set

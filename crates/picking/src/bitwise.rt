@@ -1,13 +1,13 @@
 // Not, and, xor: the values of an operand that give t, and those that do so with some value of the other
 // that agrees with its pair l, h.
 use crate::basic;
-use crate::boxes::Set;
+use boxes::Set;
 ghost use mathlib.Core.Path.{_≡_};
 ghost use mathlib.Core.Bool.{true};
 ghost use Prim.Native.Nat.{_-_, _^_};
 ghost use lib.Bits.{bitAnd, bitXor};
 ghost use Rattle.words.specs.Agree.{Within};
-ghost use Rattle.picking.specs.inner.Boxes.{Solves, SomeAgreeing};
+ghost use Rattle.boxes.specs.inner.Boxes.{Solves, SomeAgreeing};
 ghost use Rattle.picking.specs.inner.Asks.{Sized};
 
 pub(crate) fn inverse_not(w: u32, t: u64) -> Set

@@ -1,14 +1,14 @@
 // If: the values of the condition or of a branch that give t with the others as they are, and those that do so with some values of
 // the others that agree with their pairs.
 use crate::basic;
-use crate::boxes::Set;
 use crate::spot::Three;
 use crate::spot::at;
+use boxes::Set;
 ghost use mathlib.Core.Path.{_≡_};
 ghost use Prim.Native.Nat.{_≤_, _<_};
 ghost use Rattle.operators.specs.Meaning.{choose};
 ghost use Rattle.picking.specs.Spot.{put};
-ghost use Rattle.picking.specs.inner.Boxes.{Solves};
+ghost use Rattle.boxes.specs.inner.Boxes.{Solves};
 ghost use Rattle.picking.specs.inner.Asks.{branchOf, HadIf};
 
 // The branch that is taken, as a position.

@@ -1,13 +1,13 @@
 // Eq and below: the values of an operand that give t, and those that do so with some value of the other that
 // agrees with its pair l, h.
 use crate::basic;
-use crate::boxes::Set;
+use boxes::Set;
 ghost use mathlib.Core.Path.{_≡_};
 ghost use Prim.Native.Nat.{_<_};
 ghost use lib.Dec.{eqb, ltb};
 ghost use Rattle.operators.specs.Meaning.{flag};
 ghost use Rattle.words.specs.Agree.{Within};
-ghost use Rattle.picking.specs.inner.Boxes.{Solves, SomeAgreeing};
+ghost use Rattle.boxes.specs.inner.Boxes.{Solves, SomeAgreeing};
 ghost use Rattle.picking.specs.inner.Asks.{joint};
 
 pub(crate) fn inverse_eq(s: u64, t: u64) -> Set

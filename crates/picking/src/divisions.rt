@@ -1,12 +1,12 @@
 // Division: the values of an operand that give t, and those that do so with some value of the other. Widths are of at most
 // 16 bits, so that no product leaves 32.
 use crate::basic;
-use crate::boxes::Set;
-use crate::unions::Union;
+use boxes::Set;
+use boxes::Union;
 ghost use mathlib.Core.Path.{_≡_};
 ghost use Prim.Native.Nat.{_-_, _^_, _≤_, _<_};
 ghost use Rattle.operators.specs.Meaning.{quotient};
-ghost use Rattle.picking.specs.inner.Boxes.{Solves, Some};
+ghost use Rattle.boxes.specs.inner.Boxes.{Solves, Some};
 ghost use Rattle.picking.specs.inner.Asks.{Short, joint};
 
 // The greatest value of w bits.

@@ -1,13 +1,13 @@
 // Whether a position is essential: no values of the others that agree give t while it keeps its current value.
 use crate::arithmetic::difference;
 use crate::bitwise::turned;
-use crate::boxes::pick_only;
 use crate::choice::branch;
 use crate::picks::pick;
 use crate::spot::Spot;
 use crate::spot::at;
 use crate::spot::marks;
 use crate::spot::other;
+use boxes::pick_only;
 use words::Found;
 ghost use mathlib.Core.Path.{_≡_};
 ghost use Prim.Native.Nat.{_^_, _≤_, _<_};

@@ -1,9 +1,9 @@
 // Concat and extract: the values of an operand that give t, and those that do so with some value of the other.
 use crate::basic;
-use crate::boxes::Set;
+use boxes::Set;
 ghost use mathlib.Core.Path.{_≡_};
 ghost use Prim.Native.Nat.{_+_, _-_, _*_, _/_, _%_, _^_, _≤_, _<_};
-ghost use Rattle.picking.specs.inner.Boxes.{Solves, SomeAgreeing};
+ghost use Rattle.boxes.specs.inner.Boxes.{Solves, SomeAgreeing};
 ghost use Rattle.picking.specs.inner.Asks.{joint, partOf, sideOf, Joined};
 
 // What a or b is, where a above the k bits of b is t.

@@ -2,7 +2,6 @@
 mod arithmetic;
 mod basic;
 mod bitwise;
-mod boxes;
 mod choice;
 mod comparisons;
 mod divisions;
@@ -13,7 +12,6 @@ mod sets;
 mod shifts;
 mod signed;
 mod spot;
-mod unions;
 
 pub use essentials::essential;
 pub use essentials::essential_positions;

@@ -1,16 +1,16 @@
 // The picks from the inverse and the consistent set of a node's position, with a proposal.
-use crate::boxes::Set;
-use crate::boxes::pick_in;
 use crate::sets::consistent_set;
 use crate::sets::inverse_set;
 use crate::spot::Spot;
 use crate::spot::at;
+use boxes::Set;
+use boxes::pick_in;
 use words::Found;
 ghost use mathlib.Core.Path.{_≡_};
 ghost use Prim.Native.Nat.{_%_, _^_, _<_};
 ghost use Rattle.words.specs.Pick.{Picked};
 ghost use Rattle.picking.specs.Spot.{at as standing, positions, Fair, Inverse, Consistent, Asked};
-ghost use Rattle.picking.specs.inner.Boxes.{Solves};
+ghost use Rattle.boxes.specs.inner.Boxes.{Solves};
 ghost use Rattle.picking.specs.inner.Asks.{Meets, Wanted};
 
 // The proposal, taken modulo 2 to the operand's width.

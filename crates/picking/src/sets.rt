@@ -1,8 +1,8 @@
-// The inverse and the consistent set of a node's position, without the operand's pair: by kind.
+// The inverse and the consistent set of a node's position, without the operand's pair: by kind. A contract settles what is in a
+// set and not how it is cut into boxes, so functions that answer sets stay inside this crate.
 use crate::arithmetic;
 use crate::basic;
 use crate::bitwise;
-use crate::boxes::Set;
 use crate::choice;
 use crate::comparisons;
 use crate::divisions;
@@ -11,9 +11,10 @@ use crate::shifts;
 use crate::signed;
 use crate::spot::Spot;
 use crate::spot::other;
+use boxes::Set;
 ghost use mathlib.Core.Path.{_≡_};
 ghost use Rattle.picking.specs.Spot.{at as standing, put, value, Reaches, Asked};
-ghost use Rattle.picking.specs.inner.Boxes.{Solves};
+ghost use Rattle.boxes.specs.inner.Boxes.{Solves};
 
 // The values of position i that give t with the others at their current values.
 pub(crate) fn inverse_set(s: Spot, i: u32, t: u64) -> Set

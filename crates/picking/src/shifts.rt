@@ -1,12 +1,12 @@
 // Shl and lshr: the values of the operand or of the amount that give t, and those that do so with some value of the other.
 use crate::basic;
-use crate::boxes::Set;
-use crate::boxes::shifted;
-use crate::unions::Row;
-use crate::unions::Union;
+use boxes::Row;
+use boxes::Set;
+use boxes::Union;
+use boxes::shifted;
 ghost use mathlib.Core.Path.{_≡_};
 ghost use Prim.Native.Nat.{_*_, _/_, _%_, _^_, _<_};
-ghost use Rattle.picking.specs.inner.Boxes.{Solves, Some};
+ghost use Rattle.boxes.specs.inner.Boxes.{Solves, Some};
 ghost use Rattle.picking.specs.inner.Asks.{Sized, joint};
 
 // ---- shl, modulo 2^w

@@ -1,19 +1,19 @@
 // Signed words: the values of an operand of a signed comparison, an arithmetic shift or a sign extension that give t, and
 // those that do so with some value of the other.
 use crate::basic;
-use crate::boxes::Set;
-use crate::boxes::mirror;
-use crate::boxes::shifted;
 use crate::shifts::inverse_lshr_amount;
-use crate::unions::Row;
-use crate::unions::Union;
+use boxes::Row;
+use boxes::Set;
+use boxes::Union;
+use boxes::mirror;
+use boxes::shifted;
 ghost use mathlib.Core.Path.{_≡_};
 ghost use Prim.Native.Nat.{_-_, _^_, _≤_, _<_, min};
 ghost use Rattle.operators.specs.Meaning.{flag, signedLess, signedShift, extended};
 ghost use Rattle.fixed.specs.Fixed.{pair};
 ghost use Rattle.fixed.specs.inner.Pairs.{Ternary};
 ghost use Rattle.operators.specs.laws.Signed.{turned};
-ghost use Rattle.picking.specs.inner.Boxes.{Solves, Some, SomeAgreeing};
+ghost use Rattle.boxes.specs.inner.Boxes.{Solves, Some, SomeAgreeing};
 ghost use Rattle.picking.specs.inner.Asks.{Word, Folded, joint};
 
 // ---- below, in the signed order: that of the words with their signs turned over

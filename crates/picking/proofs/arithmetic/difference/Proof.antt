@@ -1,7 +1,7 @@
 -- The difference modulo 2^64, cut to w bits, is the one solution.
 use borrow.Author.Needs.{needs}
 use Rattle.picking.proofs.ArithmeticLaws.{add-by}
-use Rattle.picking.proofs.BoxLaws.{only-one}
+use Rattle.boxes.specs.laws.Solves.{only-one}
 use Rattle.picking.proofs.arithmetic.difference.Statement.{statement}
 use Rattle.picking.proofs.arithmetic.difference.Tie as tie
 

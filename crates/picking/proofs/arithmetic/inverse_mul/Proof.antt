@@ -6,7 +6,7 @@ use lib.Pow.{pow-pos}
 use borrow.Author.Needs.{needs}
 use Rattle.words.specs.laws.Zeros.{tail-lt}
 use Rattle.picking.proofs.ArithmeticLaws.{mul-zero, mul-no, mul-by}
-use Rattle.picking.proofs.BoxLaws.{same-by, solves-none}
+use Rattle.boxes.specs.laws.Solves.{same-by, solves-none}
 use Rattle.picking.proofs.arithmetic.inverse_mul.Statement.{statement}
 use Rattle.picking.proofs.arithmetic.inverse_mul.Tie as tie
 

@@ -1,6 +1,6 @@
 -- One box: the ternary word itself.
 use borrow.Author.Needs.{needs}
-use Rattle.picking.proofs.BoxLaws.{word-solves}
+use Rattle.boxes.specs.laws.Solves.{word-solves}
 use Rattle.picking.proofs.basic.agreeing.Statement.{statement}
 use Rattle.picking.proofs.basic.agreeing.Tie as tie
 

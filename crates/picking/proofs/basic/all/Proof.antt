@@ -3,7 +3,7 @@ use Prim.Native.Nat.{zero-le, _-_, _^_}
 use native.Mathlib.Nat.{le-refl}
 use lib.Pow.{le-ones}
 use borrow.Author.Needs.{needs}
-use Rattle.picking.proofs.BoxLaws.{solves-by, span-solves}
+use Rattle.boxes.specs.laws.Solves.{solves-by, span-solves}
 use Rattle.picking.proofs.basic.all.Statement.{statement}
 use Rattle.picking.proofs.basic.all.Tie as tie
 

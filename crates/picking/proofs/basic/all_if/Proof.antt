@@ -1,7 +1,7 @@
 -- All or nothing, by whether x is t.
 use native.Mathlib.Nat.{le-refl}
 use borrow.Author.Needs.{needs}
-use Rattle.picking.proofs.BoxLaws.{solves-all, solves-none}
+use Rattle.boxes.specs.laws.Solves.{solves-all, solves-none}
 use Rattle.picking.proofs.basic.all_if.Statement.{statement}
 use Rattle.picking.proofs.basic.all_if.Tie as tie
 

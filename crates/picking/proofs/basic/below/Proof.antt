@@ -2,7 +2,7 @@
 use native.Mathlib.Nat.{le-refl}
 use native.Mathlib.Omega.{arith}
 use borrow.Author.Needs.{needs}
-use Rattle.picking.proofs.BoxLaws.{solves-by, solves-none}
+use Rattle.boxes.specs.laws.Solves.{solves-by, solves-none}
 use Rattle.picking.proofs.basic.below.Statement.{statement}
 use Rattle.picking.proofs.basic.below.Tie as tie
 

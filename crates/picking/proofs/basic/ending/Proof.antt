@@ -1,6 +1,6 @@
 -- One box: the ternary word whose n low bits are fixed at c.
 use borrow.Author.Needs.{needs}
-use Rattle.picking.proofs.BoxLaws.{low-solves}
+use Rattle.boxes.specs.laws.Solves.{low-solves}
 use Rattle.picking.proofs.basic.ending.Statement.{statement}
 use Rattle.picking.proofs.basic.ending.Tie as tie
 

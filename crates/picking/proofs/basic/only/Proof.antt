@@ -1,5 +1,5 @@
 -- The value is there.
-use Rattle.picking.proofs.BoxLaws.{only-one}
+use Rattle.boxes.specs.laws.Solves.{only-one}
 use Rattle.picking.proofs.basic.only.Statement.{statement}
 use Rattle.picking.proofs.basic.only.Tie as tie
 

@@ -1,5 +1,5 @@
 -- The value is there where x is t.
-use Rattle.picking.proofs.BoxLaws.{only-solves}
+use Rattle.boxes.specs.laws.Solves.{only-solves}
 use Rattle.picking.proofs.basic.only_if.Statement.{statement}
 use Rattle.picking.proofs.basic.only_if.Tie as tie
 

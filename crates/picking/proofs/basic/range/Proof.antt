@@ -1,6 +1,6 @@
 -- One box: the interval.
 use borrow.Author.Needs.{needs}
-use Rattle.picking.proofs.BoxLaws.{span-solves}
+use Rattle.boxes.specs.laws.Solves.{span-solves}
 use Rattle.picking.proofs.basic.range.Statement.{statement}
 use Rattle.picking.proofs.basic.range.Tie as tie
 

@@ -1,7 +1,7 @@
 -- t has to lie in h; then v has the bits of t and, outside l, any others.
 use borrow.Author.Needs.{needs}
 use Rattle.picking.proofs.BitwiseLaws.{and-none, some-and-by}
-use Rattle.picking.proofs.BoxLaws.{solves-none}
+use Rattle.boxes.specs.laws.Solves.{solves-none}
 use Rattle.picking.proofs.bitwise.consistent_and.Statement.{statement}
 use Rattle.picking.proofs.bitwise.consistent_and.Tie as tie
 

@@ -1,6 +1,6 @@
 -- The other has the one value s.
 use Rattle.words.specs.laws.Agree.{within-refl}
-use Rattle.picking.proofs.BoxLaws.{single-by}
+use Rattle.boxes.specs.laws.Solves.{single-by}
 use Rattle.picking.proofs.bitwise.inverse_and.Statement.{statement}
 use Rattle.picking.proofs.bitwise.inverse_and.Tie as tie
 

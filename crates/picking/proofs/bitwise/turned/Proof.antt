@@ -1,6 +1,6 @@
 -- Xor undoes itself.
 use Rattle.picking.proofs.BitwiseLaws.{xor-by}
-use Rattle.picking.proofs.BoxLaws.{only-one}
+use Rattle.boxes.specs.laws.Solves.{only-one}
 use Rattle.picking.proofs.bitwise.turned.Statement.{statement}
 use Rattle.picking.proofs.bitwise.turned.Tie as tie
 

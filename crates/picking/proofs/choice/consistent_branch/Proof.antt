@@ -1,6 +1,6 @@
 -- Free by the other branch, else t itself.
 use borrow.Author.Needs.{needs}
-use Rattle.picking.proofs.BoxLaws.{where-by}
+use Rattle.boxes.specs.laws.Solves.{where-by}
 use Rattle.picking.proofs.ChoiceLaws.{branch-any, branch-only}
 use Rattle.picking.proofs.choice.consistent_branch.Statement.{statement}
 use Rattle.picking.proofs.choice.consistent_branch.Tie as tie

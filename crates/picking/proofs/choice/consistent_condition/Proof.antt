@@ -1,7 +1,7 @@
 -- By which of the two branches can be t.
 use borrow.Author.Needs.{needs}
 use Rattle.words.specs.laws.Decides.{decides-yes, decides-no}
-use Rattle.picking.proofs.BoxLaws.{where-by}
+use Rattle.boxes.specs.laws.Solves.{where-by}
 use Rattle.picking.proofs.ChoiceLaws.{condition-off, condition-on, condition-any}
 use Rattle.picking.proofs.choice.consistent_condition.Statement.{statement}
 use Rattle.picking.proofs.choice.consistent_condition.Tie as tie

@@ -1,7 +1,7 @@
 -- By the target and by whether the other has more than one value.
 use native.Mathlib.Nat.{le-refl}
 use borrow.Author.Needs.{needs}
-use Rattle.picking.proofs.BoxLaws.{solves-all}
+use Rattle.boxes.specs.laws.Solves.{solves-all}
 use Rattle.picking.proofs.ComparisonLaws.{some-equal, some-apart, some-other, bit-zero-of}
 use Rattle.picking.proofs.comparisons.consistent_eq.Statement.{statement}
 use Rattle.picking.proofs.comparisons.consistent_eq.Tie as tie

@@ -4,7 +4,7 @@ use Prim.Native.Nat.{zero-le}
 use native.Mathlib.Nat.{le-refl}
 use lib.Pow.{le-ones}
 use borrow.Author.Needs.{needs}
-use Rattle.picking.proofs.BoxLaws.{solves-by}
+use Rattle.boxes.specs.laws.Solves.{solves-by}
 use Rattle.picking.proofs.ComparisonLaws.{less-yes, yes-less, less-no, no-less, bit-zero-of, position-one}
 use Rattle.picking.proofs.comparisons.inverse_below.Statement.{statement}
 use Rattle.picking.proofs.comparisons.inverse_below.Tie as tie

@@ -2,7 +2,7 @@
 use mathlib.Core.Path.{_∙_, sym}
 use native.Mathlib.Nat.{le-refl}
 use borrow.Author.Needs.{needs}
-use Rattle.picking.proofs.BoxLaws.{solves-by}
+use Rattle.boxes.specs.laws.Solves.{solves-by}
 use Rattle.picking.proofs.ComparisonLaws.{equal-yes, yes-equal, equal-no, no-equal, bit-zero-of}
 use Rattle.picking.proofs.comparisons.inverse_eq.Statement.{statement}
 use Rattle.picking.proofs.comparisons.inverse_eq.Tie as tie

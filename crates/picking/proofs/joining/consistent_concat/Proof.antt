@@ -1,6 +1,6 @@
 -- The part of t at the position, where the rest of t agrees with the other.
 use borrow.Author.Needs.{needs}
-use Rattle.picking.proofs.BoxLaws.{where-by}
+use Rattle.boxes.specs.laws.Solves.{where-by}
 use Rattle.picking.proofs.JoiningLaws.{some-concat-by}
 use Rattle.picking.proofs.joining.consistent_concat.Statement.{statement}
 use Rattle.picking.proofs.joining.consistent_concat.Tie as tie

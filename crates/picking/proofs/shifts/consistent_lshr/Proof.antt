@@ -2,7 +2,7 @@
 use native.Mathlib.Omega.{arith}
 use borrow.Author.Needs.{needs}
 use Rattle.words.specs.laws.Zeros.{top-lt}
-use Rattle.picking.proofs.BoxLaws.{solves-all}
+use Rattle.boxes.specs.laws.Solves.{solves-all}
 use Rattle.picking.proofs.ComparisonLaws.{position-one}
 use Rattle.picking.proofs.ShiftLaws.{some-lshr-zero, some-lshr, some-right}
 use Rattle.picking.proofs.shifts.consistent_lshr.Statement.{statement}

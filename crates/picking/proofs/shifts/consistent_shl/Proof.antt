@@ -1,6 +1,6 @@
 -- For t = 0 anything; else the shifts by no more than t's zeros.
 use borrow.Author.Needs.{needs}
-use Rattle.picking.proofs.BoxLaws.{solves-all}
+use Rattle.boxes.specs.laws.Solves.{solves-all}
 use Rattle.picking.proofs.ComparisonLaws.{position-one}
 use Rattle.picking.proofs.ShiftLaws.{some-shl-zero, some-shl, some-amount}
 use Rattle.picking.proofs.shifts.consistent_shl.Statement.{statement}

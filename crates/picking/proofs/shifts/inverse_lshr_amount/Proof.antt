@@ -4,7 +4,7 @@ use Prim.Native.Nat.{_/_, _^_, ℕ}
 use native.Mathlib.Nat.{le-refl, zero-div}
 use native.Mathlib.Omega.{arith}
 use borrow.Author.Needs.{needs}
-use Rattle.picking.proofs.BoxLaws.{same-by, from-by, only-by, solves-none}
+use Rattle.boxes.specs.laws.Solves.{same-by, from-by, only-by, solves-none}
 use Rattle.picking.proofs.ShiftLaws.{lshr-gone, lshr-from, lshr-sum}
 use Rattle.picking.proofs.shifts.inverse_lshr_amount.Statement.{statement}
 use Rattle.picking.proofs.shifts.inverse_lshr_amount.Tie as tie

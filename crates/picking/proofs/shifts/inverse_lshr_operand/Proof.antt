@@ -2,7 +2,7 @@
 use Prim.Native.Nat.{_/_, _^_}
 use native.Mathlib.Nat.{le-refl}
 use borrow.Author.Needs.{needs}
-use Rattle.picking.proofs.BoxLaws.{same-by, solves-none}
+use Rattle.boxes.specs.laws.Solves.{same-by, solves-none}
 use Rattle.picking.proofs.ShiftLaws.{lshr-past, lshr-none, lshr-span, span-fits}
 use Rattle.picking.proofs.shifts.inverse_lshr_operand.Statement.{statement}
 use Rattle.picking.proofs.shifts.inverse_lshr_operand.Tie as tie

@@ -5,7 +5,7 @@ use native.Mathlib.Omega.{arith}
 use borrow.Author.Needs.{needs}
 use Rattle.words.specs.laws.Modular.{cut-cut}
 use Rattle.words.specs.laws.Zeros.{tail-lt}
-use Rattle.picking.proofs.BoxLaws.{same-by, from-by, only-by, solves-none}
+use Rattle.boxes.specs.laws.Solves.{same-by, from-by, only-by, solves-none}
 use Rattle.picking.proofs.ShiftLaws.{zero-shl, shl-gone, shl-from, shl-sum}
 use Rattle.picking.proofs.shifts.inverse_shl_amount.Statement.{statement}
 use Rattle.picking.proofs.shifts.inverse_shl_amount.Tie as tie

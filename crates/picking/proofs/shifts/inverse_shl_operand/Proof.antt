@@ -4,7 +4,7 @@ use Prim.Native.Nat.{_*_, _%_, _^_}
 use native.Mathlib.Nat.{le-of-lt}
 use native.Mathlib.Omega.{arith}
 use borrow.Author.Needs.{needs}
-use Rattle.picking.proofs.BoxLaws.{same-by, solves-by, solves-none}
+use Rattle.boxes.specs.laws.Solves.{same-by, solves-by, solves-none}
 use Rattle.picking.proofs.ShiftLaws.{shl-past, shl-clear, shl-ends, shl-gives, part-lt}
 use Rattle.picking.proofs.shifts.inverse_shl_operand.Statement.{statement}
 use Rattle.picking.proofs.shifts.inverse_shl_operand.Tie as tie
