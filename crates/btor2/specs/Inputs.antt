@@ -2,7 +2,7 @@
 use mathlib.Core.List.{List, [], _∷_}
 use Prim.Native.Nat.{ℕ}
 use lib.ListN.{getD, drop}
-use Rattle.evaluation.specs.Problem.{byKind}
+use Rattle.nodes.specs.Problem.{byKind}
 use Rattle.problem.specs.declared.layout.Node.{Node}
 use Rattle.lines.specs.declared.table.Makes.{Makes}
 use Rattle.lines.specs.declared.table.Makes.the-variants.{Sort, Input, Value, Root}

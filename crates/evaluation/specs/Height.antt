@@ -1,6 +1,6 @@
 -- H, the longest chain of operand links under a root.
 use Prim.Native.Nat.{ℕ, suc, _≤_, _<_}
-use Rattle.evaluation.specs.Problem.{Prob, count, arg}
+use Rattle.nodes.specs.Problem.{Prob, count, arg}
 
 module _ (P : Prob) where
   -- a chain of k operand links from node n down

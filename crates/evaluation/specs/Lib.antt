@@ -1,6 +1,4 @@
 -- The definitions to be believed, in this order; then by folder what is inner, what is promised, and laws.
-pub mod Problem
-pub mod Values
 pub mod Lists
 pub mod Readers
 pub mod Height

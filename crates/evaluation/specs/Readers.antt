@@ -3,7 +3,7 @@ use mathlib.Core.Path.{_≡_}
 use mathlib.Core.List.{List, [], _∷_}
 use Prim.Native.Nat.{ℕ, _+_, _*_, _<_}
 use lib.ListN.{getD, set}
-use Rattle.evaluation.specs.Problem.{Prob, count, arg, valueOf}
+use Rattle.nodes.specs.Problem.{Prob, count, arg, valueOf}
 use Rattle.evaluation.specs.Lists.{Lists}
 
 -- A node has four slots. In slot 4m begins the chain of the nodes that read m; slots 4i + 1, 4i + 2 and 4i + 3 are node i's links in

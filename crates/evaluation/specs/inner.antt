@@ -1,5 +1,4 @@
 -- What functions that are no entry point ask and answer of each other. Nothing that an entry point promises rests on it.
 pub mod Evaluation
-pub mod Good
 pub mod Lists
 pub mod Readers

@@ -2,16 +2,9 @@
 pub mod Above
 pub mod Chains
 pub mod Decide
-pub mod Good
 pub mod Height
 pub mod Linking
 pub mod Links
 pub mod Lists
-pub mod Nodes
-pub mod Pairs
 pub mod Passing
-pub mod Positions
-pub mod Readings
-pub mod Spot
-pub mod Upward
 pub mod Values

@@ -1,8 +1,7 @@
 // Evaluation of all nodes, and of those above a changed variable alone.
 ghost use mathlib.Core.Path.{_≡_};
-ghost use Rattle.evaluation.specs.Problem.{problem, evaluate as evaluated};
-ghost use Rattle.evaluation.specs.inner.Evaluation.{Assigned};
-ghost use Rattle.evaluation.specs.inner.Readers.{Changed, Renewal};
+ghost use Rattle.nodes.specs.Problem.{problem, evaluate as evaluated};
+ghost use Rattle.evaluation.specs.inner.Evaluation.{Assigned, Changed, Renewal};
 use crate::pass::pass_over;
 use problem::node_count;
 

@@ -2,11 +2,11 @@
 // read a marked one. Both are one loop with one call of `taken_at`, which the compiler then makes part of it.
 ghost use Prim.Native.Nat.{_≤_};
 ghost use lib.ListN.{length};
-ghost use Rattle.evaluation.specs.Problem.{problem};
-ghost use Rattle.evaluation.specs.inner.Evaluation.{Evaluable};
-ghost use Rattle.evaluation.specs.inner.Readers.{Passed, Clear, Asked, Answered};
-use crate::values::Taken;
-use crate::values::taken_at;
+ghost use Rattle.nodes.specs.Problem.{problem};
+ghost use Rattle.nodes.specs.inner.Nodes.{Evaluable};
+ghost use Rattle.evaluation.specs.inner.Evaluation.{Passed, Clear, Asked, Answered};
+use nodes::Taken;
+use nodes::taken_at;
 use problem::node_count;
 
 // Node i evaluated and marked, if it is to be; and how many were.

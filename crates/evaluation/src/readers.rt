@@ -4,9 +4,10 @@
 ghost use mathlib.Core.Path.{_≡_};
 ghost use Prim.Native.Nat.{_+_, _*_, _<_, max};
 ghost use lib.ListN.{length};
-ghost use Rattle.evaluation.specs.Problem.{problem};
-ghost use Rattle.evaluation.specs.inner.Readers.{links as linksAt, operandAt, raised, inFront, Linkable, Linking, Unindexed, Indexed};
-use crate::operands::operand;
+ghost use Rattle.nodes.specs.Problem.{problem};
+ghost use Rattle.nodes.specs.inner.Nodes.{operandAt};
+ghost use Rattle.evaluation.specs.inner.Readers.{links as linksAt, raised, inFront, Linkable, Linking, Unindexed, Indexed};
+use nodes::operand;
 use operators::operand_count;
 use problem::Node;
 use problem::node_at;

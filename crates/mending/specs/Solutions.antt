@@ -6,8 +6,8 @@ use mathlib.Core.List.{List, [], _∷_}
 use Prim.Native.Nat.{ℕ, _<_}
 use lib.ListN.{getD}
 use Rattle.problem.specs.Layout.{nodeCount, rootCount, rootAt}
-use Rattle.evaluation.specs.Problem.{problem}
-use Rattle.evaluation.specs.Values.{Evaluated, VariablesAgree}
+use Rattle.nodes.specs.Problem.{problem}
+use Rattle.nodes.specs.Values.{Evaluated, VariablesAgree}
 use Rattle.mending.specs.Order.{old, new}
 use Rattle.mending.specs.Mended.{joined}
 

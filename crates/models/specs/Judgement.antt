@@ -8,7 +8,7 @@ use Rattle.problem.specs.declared.Checked.{Checked}
 use Rattle.problem.specs.declared.Checked.the-variants.{Accepted, Refused}
 use Rattle.problem.specs.Layout.{nodeCount, rootCount, nodeAt, widthAt, rootAt}
 use Rattle.problem.specs.Refusals.{bitOutside, checked}
-use Rattle.evaluation.specs.Problem.{problem, zeros, evaluate}
+use Rattle.nodes.specs.Problem.{problem, zeros, evaluate}
 use Rattle.models.specs.declared.Judged.{Judged}
 use Rattle.models.specs.declared.Judged.the-variants.{Yes, No}
 use Rattle.models.specs.declared.Judged.the-variants as said

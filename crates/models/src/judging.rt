@@ -6,7 +6,7 @@ ghost use lib.ListN.{length, getD};
 ghost use Rattle.problem.specs.declared.Checked.the-variants.{Accepted};
 ghost use Rattle.problem.specs.Layout.{nodeCount, rootCount};
 ghost use Rattle.problem.specs.Refusals.{checked};
-ghost use Rattle.evaluation.specs.Problem.{zeros};
+ghost use Rattle.nodes.specs.Problem.{zeros};
 ghost use Rattle.models.specs.Names.{names};
 ghost use Rattle.models.specs.Entries.{isModel, entries};
 ghost use Rattle.models.specs.Judgement.{refuse, _next_, firstSaid, contradictedAt, zeroAt, judgedEntries, judgedText};

@@ -1,4 +1,4 @@
-// What the operators give on their operands' values, in word operations: those that take more than one. `evaluation` chooses by kind.
+// What the operators give on their operands' values, in word operations: those that take more than one. `nodes` chooses by kind.
 ghost use mathlib.Core.Path.{_≡_};
 ghost use Prim.Native.Nat.{_+_, _-_, _*_, _/_, _%_, _^_, _≤_, _<_};
 ghost use Rattle.operators.specs.Meaning.{quotient as quotientOf};

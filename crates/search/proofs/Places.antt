@@ -16,22 +16,22 @@ use Rattle.problem.specs.Layout.{nodeAt, widthAt, rootAt}
 use Rattle.picking.specs.declared.spot.Spot.{Spot}
 use Rattle.picking.specs.declared.spot.Three.{Three}
 use Rattle.picking.specs.Spot.{at}
-use Rattle.evaluation.specs.Problem.{Prob, Pairs, problem, three, count, arg, Variable, spotOf, spot, pairs}
-use Rattle.evaluation.specs.laws.Positions.{three-same, past-three}
+use Rattle.nodes.specs.Problem.{Prob, Pairs, problem, three, count, arg, Variable, spotOf, spot, pairs}
+use Rattle.nodes.specs.laws.Positions.{three-same, past-three}
 use Rattle.evaluation.specs.Lists.{Lists, Lists.done, Lists.keep, Lists.skip}
 use Rattle.search.specs.Step.{Out, goes, Step}
 use Rattle.search.specs.Run.{End, sets, stuck, short, Walk, Walk.arrives, Walk.unserved, Walk.stops, Walk.onward, Unsatisfied, AllOne, Move, Move.no-word, Move.from-root}
-use Rattle.evaluation.specs.inner.Good.{Good}
-use Rattle.evaluation.specs.laws.Good.{good-of}
-use Rattle.evaluation.specs.laws.Nodes.{operand-node}
-use Rattle.evaluation.specs.laws.Pairs.{pairs-ternary}
-use Rattle.evaluation.specs.laws.Spot.{spot-fair}
+use Rattle.nodes.specs.inner.Good.{Good}
+use Rattle.nodes.specs.laws.Good.{good-of}
+use Rattle.nodes.specs.laws.Nodes.{operand-node}
+use Rattle.nodes.specs.laws.Pairs.{pairs-ternary}
+use Rattle.nodes.specs.laws.Spot.{spot-fair}
 use Rattle.evaluation.specs.laws.Decide.{Stands, lists-find, lists-member}
 use Rattle.evaluation.specs.laws.Lists.{lists-unique}
 use Rattle.evaluation.specs.inner.Lists.{Count}
 use Rattle.search.specs.inner.Run.{Aimed, outOf, Stepping, Searching, Walking, Nth}
 use Rattle.search.specs.laws.Moves.{Next, step-next, root-aimed}
-use Rattle.evaluation.specs.inner.Evaluation.{ids, OperandsBelow, heldIn, widthsIn, Filled, Spotted, spotIn}
+use Rattle.nodes.specs.inner.Nodes.{ids, OperandsBelow, heldIn, widthsIn, Filled, Spotted, spotIn}
 
 -- ---- the tape, by places
 

@@ -5,9 +5,9 @@ use Prim.Native.Nat.{ℕ, _<_}
 use native.Mathlib.Omega.{arith}
 use lib.ListN.{length, getD}
 use Rattle.problem.specs.Layout.{rootAt}
-use Rattle.evaluation.specs.Problem.{problem}
+use Rattle.nodes.specs.Problem.{problem}
 use Rattle.search.specs.inner.Run.{Moving}
-use Rattle.evaluation.specs.laws.Readings.{root-inside}
+use Rattle.nodes.specs.laws.Readings.{root-inside}
 
 -- its place among the values, and what stands there
 pub root-place : (s vs : List ℕ) (j r : ℕ) → Moving s vs → j < problem s .entries → r ≡ rootAt s j → r < length vs

@@ -15,18 +15,19 @@ use Rattle.problem.specs.Refusals.{refusal, firstOf, _then_, checked}
 use Rattle.problem.specs.laws.First.{then-left, then-right, then-refused}
 use Rattle.search.specs.declared.Verdict.{Verdict}
 use Rattle.search.specs.declared.Answer.{Answer}
-use Rattle.evaluation.specs.Problem.{problem, evaluate}
+use Rattle.nodes.specs.Problem.{problem, evaluate}
 use Rattle.search.specs.declared.moves.Turn.the-variants.{Finished, Unfinished}
 use Rattle.search.specs.Run.{ClosedRoot, Unsatisfied, AllOne, answer, Run, Run.model, Run.spent, Run.ended, Run.moved, Run.held}
 use Rattle.search.specs.Call.{placesFault, refusals}
-use Rattle.evaluation.specs.inner.Good.{Good, Held}
-use Rattle.evaluation.specs.laws.Good.{good-of}
+use Rattle.nodes.specs.inner.Good.{Good, Held}
+use Rattle.nodes.specs.laws.Good.{good-of}
 use Rattle.evaluation.specs.laws.Values.{held-evaluate}
 use Rattle.search.specs.promises.Accepted.{accepted-start}
 use Rattle.search.specs.laws.Starts.{places-right, then-assoc}
 use Rattle.search.specs.laws.Moves.{move-lands}
 use Rattle.search.specs.laws.Runs.{kept-after}
-use Rattle.evaluation.specs.inner.Evaluation.{Assigned, Filled}
+use Rattle.nodes.specs.inner.Nodes.{Filled}
+use Rattle.evaluation.specs.inner.Evaluation.{Assigned}
 use Rattle.evaluation.specs.inner.Lists.{Count}
 use Rattle.evaluation.specs.inner.Readers.{Indexed}
 use Rattle.evaluation.specs.laws.Decide.{lists-length}

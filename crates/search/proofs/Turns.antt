@@ -4,11 +4,11 @@ use mathlib.Core.List.{List}
 use Prim.Native.Nat.{ℕ, _<_}
 use native.Mathlib.Omega.{arith}
 use lib.ListN.{length, set, drop, length-set}
-use Rattle.evaluation.specs.Problem.{problem}
-use Rattle.evaluation.specs.inner.Good.{Good}
-use Rattle.evaluation.specs.inner.Evaluation.{Assigned}
-use Rattle.evaluation.specs.inner.Readers.{Indexed, Changed, Renewal}
-use Rattle.evaluation.specs.laws.Good.{good-of}
+use Rattle.nodes.specs.Problem.{problem}
+use Rattle.nodes.specs.inner.Good.{Good}
+use Rattle.evaluation.specs.inner.Evaluation.{Assigned, Changed, Renewal}
+use Rattle.evaluation.specs.inner.Readers.{Indexed}
+use Rattle.nodes.specs.laws.Good.{good-of}
 use Rattle.evaluation.specs.laws.Values.{length-evaluate}
 use Rattle.search.specs.Run.{sets, Move}
 use Rattle.search.specs.inner.Run.{Drawing}

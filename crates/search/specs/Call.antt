@@ -12,7 +12,7 @@ use Rattle.problem.specs.Layout.{nodeCount, nodeAt}
 use Rattle.problem.specs.Refusals.{firstOf, _then_, firstBelow, bitOutside, checked}
 use Rattle.search.specs.declared.Outcome.{Outcome}
 use Rattle.search.specs.declared.Answer.{Answer}
-use Rattle.evaluation.specs.Problem.{problem}
+use Rattle.nodes.specs.Problem.{problem}
 use Rattle.search.specs.Run.{Whole}
 
 -- 14: "fewer than N places lent for values"

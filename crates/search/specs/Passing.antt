@@ -5,7 +5,7 @@ use Prim.Native.Nat.{ℕ, _+_, _≤_, _<_}
 use lib.ListN.{length, set, take, drop}
 use Rattle.problem.specs.declared.Checked.the-variants.{Accepted}
 use Rattle.search.specs.declared.Answer.{Answer}
-use Rattle.evaluation.specs.Problem.{Prob, problem, evaluate}
+use Rattle.nodes.specs.Problem.{Prob, problem, evaluate}
 use Rattle.evaluation.specs.Lists.{Lists}
 use Rattle.evaluation.specs.Readers.{Above}
 use Rattle.search.specs.Run.{sets, stuck, AllOne, Move, ClosedRoot, Run}

@@ -3,9 +3,9 @@ use mathlib.Core.List.{List}
 use Prim.Native.Nat.{ℕ, zero, suc, _+_}
 use lib.Dec.{eqb}
 use lib.ListN.{getD}
-use Rattle.evaluation.specs.Problem.{oneOf, Prob}
+use Rattle.nodes.specs.Problem.{oneOf, Prob}
 use Rattle.search.specs.Run.{AllOne}
-use Rattle.evaluation.specs.Values.{Evaluated, VariablesAgree}
+use Rattle.nodes.specs.Values.{Evaluated, VariablesAgree}
 
 module _ (P : Prob) where
   -- an assignment that agrees with the variables' fixed bits, evaluated, with every root 1

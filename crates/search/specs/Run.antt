@@ -6,7 +6,7 @@ use lib.ListN.{length, getD, set, drop}
 use Rattle.search.specs.declared.Verdict.{Verdict}
 use Rattle.search.specs.declared.Outcome.{Outcome}
 use Rattle.search.specs.declared.Answer.{Answer}
-use Rattle.evaluation.specs.Problem.{Prob, arg, Variable, evaluate, pairHi, spot}
+use Rattle.nodes.specs.Problem.{Prob, arg, Variable, evaluate, pairHi, spot}
 use Rattle.evaluation.specs.Lists.{Lists}
 use Rattle.evaluation.specs.Readers.{Above}
 use Rattle.search.specs.Step.{Step, goes, blocked}

@@ -1,7 +1,7 @@
 // The run of document 01, an entry point: steps, moves, and whole runs.
 ghost use mathlib.Core.Path.{_≡_};
 ghost use Prim.Native.Nat.{_+_, _*_};
-ghost use Rattle.evaluation.specs.inner.Evaluation.{Fills};
+ghost use Rattle.nodes.specs.inner.Nodes.{Fills};
 ghost use Rattle.evaluation.specs.inner.Readers.{Indexed};
 ghost use Rattle.search.specs.Run.{answer};
 ghost use Rattle.search.specs.Call.{refused, Called};
@@ -17,10 +17,10 @@ pub use answers::outcome_code;
 pub use answers::refusal_code;
 pub use answers::verdict_code;
 use evaluation::evaluate;
-use evaluation::fill;
 use evaluation::index_readers;
 use moves::Turn;
 use moves::finish_move;
+use nodes::fill;
 use problem::Checked;
 use problem::Refusal;
 use problem::node_count;

@@ -1,15 +1,15 @@
 // Moves: from an unsatisfied root entry down to a variable, step by step, and up again to all that lies above it.
 ghost use Prim.Native.Nat.{_+_};
 ghost use lib.ListN.{drop, length};
-ghost use Rattle.evaluation.specs.Problem.{problem};
+ghost use Rattle.nodes.specs.Problem.{problem};
 ghost use Rattle.evaluation.specs.inner.Readers.{Indexed};
 ghost use Rattle.search.specs.Run.{Walk, Move};
 ghost use Rattle.search.specs.inner.Run.{Walking, Drawing, endOf, Placed, Turned};
 use crate::roots::nth_unsatisfied;
 use crate::step::step;
 use evaluation::evaluate_above;
-use evaluation::operand;
-use evaluation::spot_of;
+use nodes::operand;
+use nodes::spot_of;
 use problem::node_at;
 use problem::root_at;
 use words::Found;

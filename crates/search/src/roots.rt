@@ -1,8 +1,8 @@
 // The roots: whether one is fixed at 0, how many entries are not satisfied, and which.
 ghost use Prim.Native.Nat.{_<_};
 ghost use Rattle.words.specs.inner.Decides.{Decides};
-ghost use Rattle.evaluation.specs.Problem.{problem};
-ghost use Rattle.evaluation.specs.inner.Evaluation.{Filled};
+ghost use Rattle.nodes.specs.Problem.{problem};
+ghost use Rattle.nodes.specs.inner.Nodes.{Filled};
 ghost use Rattle.evaluation.specs.inner.Lists.{Count};
 ghost use Rattle.search.specs.Run.{ClosedRoot, Unsatisfied};
 ghost use Rattle.search.specs.inner.Run.{Moving, Nth};

@@ -16,12 +16,12 @@ use Rattle.problem.specs.declared.layout.Node.{Node}
 use Rattle.problem.specs.Layout.{nodeAt, rootAt}
 use Rattle.picking.specs.Spot.{at}
 use Rattle.picking.specs.laws.Positions.{few-positions}
-use Rattle.evaluation.specs.Problem.{Prob, oneOf, problem, count, arg}
+use Rattle.nodes.specs.Problem.{Prob, oneOf, problem, count, arg}
 use Rattle.evaluation.specs.Height.{Longest}
-use Rattle.evaluation.specs.inner.Good.{Good}
-use Rattle.evaluation.specs.laws.Good.{good-of}
+use Rattle.nodes.specs.inner.Good.{Good}
+use Rattle.nodes.specs.laws.Good.{good-of}
 use Rattle.evaluation.specs.laws.Height.{greatest, greatest-of-three, Height, height-over, height-short, longest-over}
-use Rattle.evaluation.specs.inner.Evaluation.{ids}
+use Rattle.nodes.specs.inner.Nodes.{ids}
 use Rattle.tapes.specs.inner.Heights.{Heights}
 
 module _ (s hs : List ℕ) (i : ℕ) (t : Heights s hs i) (l : i < problem s .nodes) where

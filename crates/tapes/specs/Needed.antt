@@ -6,7 +6,7 @@ use Rattle.problem.specs.declared.Refusal.{Refusal}
 use Rattle.problem.specs.declared.Checked.the-variants.{Accepted, Refused}
 use Rattle.problem.specs.Refusals.{checked}
 use Rattle.tapes.specs.declared.TapeNeed.{TapeNeed}
-use Rattle.evaluation.specs.Problem.{problem}
+use Rattle.nodes.specs.Problem.{problem}
 use Rattle.evaluation.specs.Height.{Longest}
 
 -- "H for a problem, and the number of words B x (1 + 2H) for a budget B"; refusals are those of the problem check, "with H and

@@ -1,7 +1,7 @@
 -- What document 02 asks of a tape's length speaks of: the steps that a move makes, finished or not.
 use mathlib.Core.List.{List}
 use Prim.Native.Nat.{ℕ, suc}
-use Rattle.evaluation.specs.Problem.{Prob}
+use Rattle.nodes.specs.Problem.{Prob}
 use Rattle.search.specs.Run.{End, Walk, Walk.arrives, Walk.unserved, Walk.stops, Walk.onward, Move, Move.no-word, Move.from-root}
 
 module _ {P : Prob} {vs : List ℕ} where

@@ -3,7 +3,7 @@ ghost use mathlib.Core.Path.{_≡_};
 ghost use mathlib.Core.Bool.{true};
 ghost use Prim.Native.Nat.{suc, _+_, _*_, _<_};
 ghost use lib.ListN.{length, getD};
-ghost use Rattle.evaluation.specs.Problem.{oneOf, problem};
+ghost use Rattle.nodes.specs.Problem.{oneOf, problem};
 ghost use Rattle.evaluation.specs.Height.{Longest};
 ghost use Rattle.evaluation.specs.laws.Height.{Height};
 ghost use Rattle.tapes.specs.inner.Heights.{Heights};

@@ -6,7 +6,7 @@ use lib.Dec.{ltb}
 use Rattle.operators.specs.Table.{kindCount, shapeOf}
 use Rattle.picking.specs.declared.spot.Spot.{Spot}
 use Rattle.picking.specs.Spot.{at, positions, Slot, Asked}
-use Rattle.evaluation.specs.Problem.{oneOf}
+use Rattle.nodes.specs.Problem.{oneOf}
 
 -- a position that the kind does not have holds nothing
 pub record Empty (w lo hi v : ℕ) : Type 0 where

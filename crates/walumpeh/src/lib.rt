@@ -8,7 +8,7 @@ mod gathers;
 mod judgements;
 mod mends;
 mod needs;
-mod nodes;
 mod offered;
+mod picks;
 mod runs;
 mod starts;

@@ -1,5 +1,5 @@
 -- Room for 1,024 nodes is enough.
-use Rattle.evaluation.specs.laws.Good.{good-of}
+use Rattle.nodes.specs.laws.Good.{good-of}
 use Rattle.search.specs.laws.Room.{unprepared}
 use borrow.Author.Needs.{needs}
 use Rattle.batches.proofs.run_starts.Statement.{statement}

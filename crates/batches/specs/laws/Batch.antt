@@ -8,8 +8,8 @@ use lib.ListN.{length, getD}
 use Rattle.problem.specs.Layout.{nodeCount}
 use Rattle.search.specs.declared.Answer.{Answer}
 use Rattle.search.specs.Answers.{answerWords, told}
-use Rattle.evaluation.specs.Problem.{problem}
-use Rattle.evaluation.specs.laws.Good.{good-of}
+use Rattle.nodes.specs.Problem.{problem}
+use Rattle.nodes.specs.laws.Good.{good-of}
 use Rattle.search.specs.Call.{Called, Called.refuses, Called.runs}
 use Rattle.batches.specs.Batch.{part, sum, places, stretch, Start, Starts}
 use Rattle.search.specs.inner.Run.{Lent}

@@ -7,7 +7,7 @@ use lib.Dec.{ltb}
 use lib.ListN.{length, getD, drop}
 use Rattle.operators.specs.Meaning.{meaning, flag}
 use Rattle.operators.specs.Table.{kindOf}
-use Rattle.evaluation.specs.Problem.{byKind}
+use Rattle.nodes.specs.Problem.{byKind}
 use Rattle.problem.specs.declared.layout.Node.{Node}
 use Rattle.spelling.specs.Nodes.{invert}
 use Rattle.btor2.specs.Conversion.{widthIn}

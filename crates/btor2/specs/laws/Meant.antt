@@ -23,7 +23,7 @@ use Rattle.lines.specs.Format.{Constant}
 use Rattle.spelling.specs.Nodes.{operator, constantNode, variableNode, invert, constantValue, fits, own}
 use Rattle.btor2.specs.Conversion.{widthIn}
 use Rattle.btor2.specs.Meaning.{isMinus, moved, flipped, worth}
-use Rattle.evaluation.specs.Problem.{byKind}
+use Rattle.nodes.specs.Problem.{byKind}
 use Rattle.btor2.specs.Inputs.{inputsOf, variableWidths}
 use Rattle.btor2.specs.inner.Values.{Gives, Kinds, nodeValue, Evaluated, Fitting}
 use Rattle.btor2.specs.laws.Spelling.{spelled-sub, spelled-neq, spelled-uext, spelled-or}

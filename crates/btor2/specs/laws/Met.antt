@@ -19,7 +19,7 @@ use Rattle.lines.specs.Format.{Ref, refsFrom, Item, itemOf, item}
 use Rattle.spelling.specs.Nodes.{variableNode, invert, own, nots, placed}
 use Rattle.btor2.specs.Conversion.{Table, State, start, known, at, widthIn, operands, newNodes, nodeFor, withRoot, naming, added, after, sortUnknown, lineFault, afterLine, Outcome, converted, refused, convertFrom, outcome}
 use Rattle.btor2.specs.Meaning.{Valued, nothing, World, sortOf, lineOf, operand, valueOf, valued, told, tellLine, tell, world, AllOne, Met}
-use Rattle.evaluation.specs.Problem.{byKind}
+use Rattle.nodes.specs.Problem.{byKind}
 use Rattle.btor2.specs.Inputs.{inputsOf, variableWidths, widthsBy, inputWidths}
 use Rattle.btor2.specs.inner.Values.{Gives, Kinds, Evaluated, Fitting}
 use Rattle.lines.specs.inner.Told.{idOf}

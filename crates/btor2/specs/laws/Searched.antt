@@ -15,11 +15,11 @@ use Rattle.operators.specs.laws.Meaning.{meaning-known}
 use Rattle.problem.specs.declared.layout.Node.{Node}
 use Rattle.problem.specs.Layout.{nodeCount, rootCount, nodeAt, widthAt, rootAt}
 use Rattle.problem.specs.inner.Facts.{NodeFacts}
-use Rattle.evaluation.specs.Problem.{byKind, problem, valueOf}
-use Rattle.evaluation.specs.Values.{VariablesAgree}
-use Rattle.evaluation.specs.Values as run
-use Rattle.evaluation.specs.laws.Nodes.{Which, variable, constant, inner, which, kind-own, kind-constant, kind-inner}
-use Rattle.evaluation.specs.laws.Readings.{gives-value, constant-value}
+use Rattle.nodes.specs.Problem.{byKind, problem, valueOf}
+use Rattle.nodes.specs.Values.{VariablesAgree}
+use Rattle.nodes.specs.Values as run
+use Rattle.nodes.specs.laws.Nodes.{Which, variable, constant, inner, which, kind-own, kind-constant, kind-inner}
+use Rattle.nodes.specs.laws.Readings.{gives-value, constant-value}
 use Rattle.spelling.specs.Nodes.{operator, variableNode, constantNode, invert}
 use Rattle.btor2.specs.Conversion.{State, widthIn, bytesOf}
 use Rattle.btor2.specs.Meaning.{AllOne}

@@ -20,7 +20,7 @@ use Rattle.lines.specs.Format.{Ref, Constant, Item, itemOf, item}
 use Rattle.spelling.specs.Nodes.{operator, constantNode, variableNode, invert, constantValue, fits, own, nots, placed, isRoot}
 use Rattle.btor2.specs.Conversion.{Table, State, known, at, widthIn, operandOf, operands, widthOf, anyUnknown, newNodes, nodeFor, withRoot, naming, added, after}
 use Rattle.btor2.specs.Meaning.{isMinus, moved, flipped, worth, Valued, nothing, World, sortOf, lineOf, under, operand, valueOf, valued, told, AllOne}
-use Rattle.evaluation.specs.Problem.{byKind}
+use Rattle.nodes.specs.Problem.{byKind}
 use Rattle.btor2.specs.Inputs.{inputsOf}
 use Rattle.lines.specs.inner.Told.{idOf}
 use Rattle.btor2.specs.laws.Meant.{StandsIn, AtIn}

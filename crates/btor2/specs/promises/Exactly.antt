@@ -5,8 +5,8 @@ use mathlib.Core.Logic.{_↔_}
 use Prim.Native.Nat.{ℕ, _<_}
 use lib.ListN.{getD}
 use Rattle.problem.specs.Layout.{rootCount, rootAt}
-use Rattle.evaluation.specs.Problem.{problem}
-use Rattle.evaluation.specs.Values.{Evaluated, VariablesAgree}
+use Rattle.nodes.specs.Problem.{problem}
+use Rattle.nodes.specs.Values.{Evaluated, VariablesAgree}
 use Rattle.btor2.specs.Conversion.{State, converted, outcome, bytesOf}
 use Rattle.btor2.specs.Meaning.{Met}
 use Rattle.btor2.specs.Inputs.{inputsOf}

@@ -1,69 +1,40 @@
--- What the functions of evaluation ask and answer, in terms of the definitions. (Not needed to read what is promised.)
+-- What the pass over the nodes and the functions that are made of it ask and answer, in terms of the definitions.
 use mathlib.Core.Path.{_≡_}
+use mathlib.Core.Bool.{Bool, true, false}
 use mathlib.Core.List.{List}
-use Prim.Native.Nat.{ℕ, _+_, _*_, _^_, _≤_, _<_}
-use lib.Dec.{ltb}
-use lib.ListN.{length, getD}
-use Rattle.operators.specs.declared.meaning.Op.{Op}
-use Rattle.operators.specs.Table.{kindOf, shapeOf}
-use Rattle.fixed.specs.inner.Pairs.{Ternary, PairsReady}
-use Rattle.fixed.specs.declared.Pair.{Pair}
-use Rattle.fixed.specs.Fixed.{pair, pairOf}
-use Rattle.problem.specs.declared.layout.Node.{Node}
+use Prim.Native.Nat.{ℕ, _≤_, _<_}
+use lib.ListN.{length, getD, set}
+use Rattle.problem.specs.Layout.{nodeAt}
 use Rattle.problem.specs.declared.Checked.the-variants.{Accepted}
-use Rattle.problem.specs.Layout.{widthAt}
 use Rattle.problem.specs.Refusals.{checked}
-use Rattle.picking.specs.declared.spot.Three.{Three}
-use Rattle.picking.specs.declared.spot.Spot.{Spot}
-use Rattle.picking.specs.Spot.{at}
-use Rattle.evaluation.specs.declared.operands.Widths.{Widths}
-use Rattle.evaluation.specs.Problem.{oneOf, three, problem, Pairs, fillUp, pairLo, pairHi}
-use Rattle.evaluation.specs.Values.{VariablesAgree}
+use Rattle.nodes.specs.Problem.{problem, Variable, valueOf, evaluate}
+use Rattle.nodes.specs.Values.{Evaluated, VariablesAgree}
+use Rattle.evaluation.specs.Readers.{Reads, Above}
+use Rattle.evaluation.specs.inner.Lists.{Count}
+use Rattle.nodes.specs.inner.Nodes.{Wanted}
+use Rattle.evaluation.specs.inner.Readers.{Indexed}
 
--- ---- operands.rt
+-- ---- pass.rt
 
-abbrev pub ids : Node → Three
-ids n = record { a = n .a; b = n .b; c = n .c }
+-- what becomes of values and marks at node i, and how many are evaluated
+pub data Passed (s : List ℕ) (i : ℕ) (all : Bool) (vs marks : List ℕ) : List ℕ → List ℕ → ℕ → Type 0 where
+  renewed :
+      {us next : List ℕ} {r : ℕ}
+      → Wanted all marks (nodeAt s i)
+      → us ≡ set vs i (valueOf (problem s) vs i)
+      → next ≡ set marks i 1
+      → r ≡ 1
+      → Passed s i all vs marks us next r
+  left :
+      {us next : List ℕ} {r : ℕ} → (Wanted all marks (nodeAt s i) → ⊥) → us ≡ vs → next ≡ marks → r ≡ 0 → Passed s i all vs marks us next r
 
-abbrev pub operandCount : Node → ℕ
-operandCount n = shapeOf (n .kind) .operands
+-- marks for all nodes, none set
+pub record Clear (s marks : List ℕ) : Type 0 where
+  pub some : 0 < length marks
+  pub room : problem s .nodes ≤ length marks
+  pub none : (k : ℕ) → getD marks k 0 ≡ 0
 
--- the ids of a node's operands are below k
-abbrev pub OperandsBelow : Node → ℕ → Type 0
-OperandsBelow n k = (i : ℕ) → i < operandCount n → at (ids n) i < k
-
--- what the list l has at the ids of the operands
-unfoldable pub heldIn : List ℕ → Node → Three
-heldIn l n = three (operandCount n) (λ i. getD l (at (ids n) i) 0)
-
--- the operands' widths in the problem s
-unfoldable pub widthsIn : List ℕ → Node → Widths
-widthsIn s n =
-    record {
-      a = oneOf (ltb 0 (operandCount n)) (widthAt s (n .a)) 0;
-      b = oneOf (ltb 1 (operandCount n)) (widthAt s (n .b)) 0;
-      c = oneOf (ltb 2 (operandCount n)) (widthAt s (n .c)) 0;
-    }
-
-unfoldable pub operatorIn : List ℕ → Node → Op
-operatorIn s n = record { kind = n .kind; width = n .width; wa = widthsIn s n .a; wb = widthsIn s n .b; low = n .b }
-
--- ---- evaluate.rt
-
--- the bytes of node i are there
-abbrev pub Readable : List ℕ → ℕ → Type 0
-Readable s i = 9 + 24 * i + 24 ≤ length s
-
--- the operator of node n, with the widths that stand at its fields a and b, whether its kind uses them or not
-abbrev pub standingOp : List ℕ → Node → Op
-standingOp s n = record { kind = n .kind; width = n .width; wa = widthAt s (n .a); wb = widthAt s (n .b); low = n .b }
-
--- node i of an accepted problem s, where the places vs of the nodes below it hold values of their widths
-pub record Evaluable (s vs : List ℕ) (i : ℕ) : Type 0 where
-  pub accepted : checked s ≡ Accepted
-  pub places : problem s .nodes ≤ length vs
-  pub inside : i < problem s .nodes
-  pub narrow : (m : ℕ) → m < i → getD vs m 0 < 2 ^ problem s .width m
+-- ---- above.rt
 
 -- an accepted problem s, and a place for each node, where the variables agree with their pairs
 pub record Assigned (s vs : List ℕ) : Type 0 where
@@ -71,68 +42,37 @@ pub record Assigned (s vs : List ℕ) : Type 0 where
   pub places : problem s .nodes ≤ length vs
   pub agrees : VariablesAgree (problem s) vs
 
--- ---- pairs.rt
+-- values vs in which variable v was set after they were evaluated
+pub record Changed (s slots vs : List ℕ) (v : ℕ) : Type 0 where
+  pub assigned : Assigned s vs
+  pub indexed : Indexed s slots
+  pub inside : v < problem s .nodes
+  pub variable : Variable (problem s) v
+  pub before : List ℕ
+  pub evaluated : Evaluated (problem s) before
+  pub value : ℕ
+  pub is : vs ≡ set before v value
 
-abbrev pub pairsOf : List ℕ → List ℕ → Pairs
-pairsOf los his = record { los = los; his = his }
+-- all nodes are evaluated, and r of them lie above v
+pub record Renewal (s vs : List ℕ) (v : ℕ) (us : List ℕ) (r : ℕ) : Type 0 where
+  pub values : us ≡ evaluate (problem s) vs
+  pub count : Count (Above (problem s) v) (problem s .nodes) r
 
--- the pair that an operator has from its operands' pairs
-abbrev pub narrows : Op → Three → Three → Pair
-narrows o lo hi =
-    pairOf (kindOf (o .kind)) (o .width) (o .wa) (o .wb) (o .low) (pair (lo .a) (hi .a)) (pair (lo .b) (hi .b)) (pair (lo .c) (hi .c))
+-- the same, where `first` is the first node that reads v, and all nodes above v but itself stand before `end`
+pub record Due (s vs : List ℕ) (v first end : ℕ) : Type 0 where
+  pub slots : List ℕ
+  pub changed : Changed s slots vs v
+  pub inside : first < problem s .nodes
+  pub reads : Reads (problem s) v first
+  pub least : (n : ℕ) → n < first → Reads (problem s) v n → ⊥
+  pub most : end ≤ problem s .nodes
+  pub past : (k : ℕ) → v < k → Above (problem s) v k → k < end
 
-abbrev pub derives : List ℕ → List ℕ → List ℕ → Node → Pair
-derives s los his n = narrows (operatorIn s n) (heldIn los n) (heldIn his n)
+-- what a pass over all nodes asks, and one over those above v; and what each answers
+pub data Asked (s vs : List ℕ) (v first end : ℕ) : Bool → Type 0 where
+  whole : Assigned s vs → v ≡ 0 → first ≡ 0 → end ≡ problem s .nodes → Asked s vs v first end true
+  part : Due s vs v first end → Asked s vs v first end false
 
--- a node whose operator can be put to work on its operands' pairs
-pub record Narrowed (s los his : List ℕ) (n : Node) : Type 0 where
-  pub below-lo : OperandsBelow n (length los)
-  pub below-hi : OperandsBelow n (length his)
-  pub ready :
-      PairsReady (operatorIn s n) (pair (heldIn los n .a) (heldIn his n .a)) (pair (heldIn los n .b) (heldIn his n .b))
-      (pair (heldIn los n .c) (heldIn his n .c))
-
--- node i of an accepted problem s, and a place for each node in two lists, where the nodes below it have pairs of their widths
-pub record Fillable (s los his : List ℕ) (i : ℕ) : Type 0 where
-  pub accepted : checked s ≡ Accepted
-  pub room-lo : problem s .nodes ≤ length los
-  pub room-hi : problem s .nodes ≤ length his
-  pub inside : i < problem s .nodes
-  pub ternary : (n : ℕ) → n < i → Ternary (problem s .width n) (pair (getD los n 0) (getD his n 0))
-
--- an accepted problem, and a place for each node in two lists
-pub record Unfilled (s los his : List ℕ) : Type 0 where
-  pub accepted : checked s ≡ Accepted
-  pub room-lo : problem s .nodes ≤ length los
-  pub room-hi : problem s .nodes ≤ length his
-
--- the pairs of all nodes filled in, and every place after them as it was
-abbrev pub Fills : List ℕ → List ℕ → List ℕ → List ℕ → List ℕ → Type 0
-Fills s los his los′ his′ = pairsOf los′ his′ ≡ fillUp (problem s) (problem s .nodes) (pairsOf los his)
-
--- an accepted problem, and all its pairs in the places of its nodes
-pub record Filled (s los his : List ℕ) : Type 0 where
-  pub accepted : checked s ≡ Accepted
-  pub room-lo : problem s .nodes ≤ length los
-  pub room-hi : problem s .nodes ≤ length his
-  pub lo : (n : ℕ) → n < problem s .nodes → getD los n 0 ≡ pairLo (problem s) n
-  pub hi : (n : ℕ) → n < problem s .nodes → getD his n 0 ≡ pairHi (problem s) n
-
--- ---- spot.rt
-
-pub record Spotted (los his vs : List ℕ) (n : Node) : Type 0 where
-  pub below-lo : OperandsBelow n (length los)
-  pub below-hi : OperandsBelow n (length his)
-  pub below : OperandsBelow n (length vs)
-
-unfoldable pub spotIn : List ℕ → List ℕ → List ℕ → List ℕ → Node → Spot
-spotIn s los his vs n =
-    record {
-      kind = n .kind;
-      width = n .width;
-      low = n .b;
-      widths = record { a = widthsIn s n .a; b = widthsIn s n .b; c = widthsIn s n .c };
-      los = heldIn los n;
-      his = heldIn his n;
-      current = heldIn vs n;
-    }
+pub data Answered (s vs : List ℕ) (v : ℕ) : Bool → List ℕ → ℕ → Type 0 where
+  whole : {us : List ℕ} {r : ℕ} → us ≡ evaluate (problem s) vs → Answered s vs v true us r
+  part : {us : List ℕ} {r : ℕ} → Renewal s vs v us r → Answered s vs v false us r

@@ -10,11 +10,11 @@ use native.Mathlib.Numerals.{add-one}
 use native.Mathlib.Decide.{ℕ-discrete, decLt}
 use lib.ListN.{length, getD, set, length-set}
 use lib.Seq.{getD-set-same, getD-set-other, ext-getD}
-use Rattle.evaluation.specs.Problem.{Prob, count, arg, Variable, valueOf, evaluate}
-use Rattle.evaluation.specs.Values.{Evaluated}
-use Rattle.evaluation.specs.inner.Good.{Good}
+use Rattle.nodes.specs.Problem.{Prob, count, arg, Variable, valueOf, evaluate}
+use Rattle.nodes.specs.Values.{Evaluated}
+use Rattle.nodes.specs.inner.Good.{Good}
 use Rattle.evaluation.specs.Lists.{Lists, Lists.done, Lists.keep, Lists.skip}
-use Rattle.evaluation.specs.laws.Nodes.{value-own, value-same}
+use Rattle.nodes.specs.laws.Nodes.{value-own, value-same}
 use Rattle.evaluation.specs.laws.Values.{length-evaluate, evaluate-above, evaluate-variable, evaluate-fixed}
 use Rattle.evaluation.specs.Readers.{Reads, Above, itself, onward, evalOver}
 use Rattle.evaluation.specs.laws.Decide.{Some, Listed, dec-both, dec-map, dec-some, listed}

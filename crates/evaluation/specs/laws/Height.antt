@@ -6,9 +6,9 @@ use native.Mathlib.Omega.{arith}
 use native.Mathlib.Nat.{not-suc-le-zero, lt-suc-self, le-antisymm}
 use native.Mathlib.Decide.{ℕ-discrete, decLe}
 use lib.Dec.{ltb}
-use Rattle.evaluation.specs.Problem.{oneOf, Prob, count, arg}
+use Rattle.nodes.specs.Problem.{oneOf, Prob, count, arg}
 use Rattle.evaluation.specs.Height.{Chain, Chain.ends, Chain.link, Longest}
-use Rattle.evaluation.specs.inner.Good.{Good}
+use Rattle.nodes.specs.inner.Good.{Good}
 use Rattle.evaluation.specs.laws.Decide.{Some}
 
 -- the greatest of f below n, 0 if there is none

@@ -15,12 +15,12 @@ use Rattle.problem.specs.declared.Checked.the-variants.{Accepted}
 use Rattle.problem.specs.Layout.{nodeAt}
 use Rattle.problem.specs.Refusals.{checked}
 use Rattle.evaluation.specs.Lists.{Lists.done}
-use Rattle.evaluation.specs.Problem.{problem}
+use Rattle.nodes.specs.Problem.{problem}
 use Rattle.evaluation.specs.Readers.{Reads, Above}
-use Rattle.evaluation.specs.inner.Evaluation.{operandCount}
+use Rattle.nodes.specs.inner.Nodes.{operandCount, operandAt}
 use Rattle.evaluation.specs.inner.Lists.{ListsFrom, ListsFrom.none}
-use Rattle.evaluation.specs.inner.Readers.{linked, links, operandAt, inFront, ChainFrom, ChainFrom.ends, Linkable, Unlinked, Ended, Linking, Unindexed, Indexed}
-use Rattle.evaluation.specs.laws.Good.{good-of}
+use Rattle.evaluation.specs.inner.Readers.{linked, links, inFront, ChainFrom, ChainFrom.ends, Linkable, Unlinked, Ended, Linking, Unindexed, Indexed}
+use Rattle.nodes.specs.laws.Good.{good-of}
 use Rattle.evaluation.specs.laws.Lists.{lists-from}
 use Rattle.evaluation.specs.laws.Links.{grown, upTo, upTo-more, upTo-most, linked-there, one-hit, handed-down}
 use Rattle.evaluation.specs.laws.Chains.{chain-of, chain-wider, front-chain, front-slot, length-front}

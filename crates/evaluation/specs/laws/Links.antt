@@ -8,7 +8,7 @@ use lib.Dec.{ltb, eqb}
 use borrow.Author.Tests.{ltb-true, lt-ltb, eqb-true, eq-eqb, ne-eqb}
 use Rattle.picking.specs.declared.spot.Three.{Three}
 use Rattle.picking.specs.laws.Positions.{few-positions}
-use Rattle.evaluation.specs.Problem.{Prob, count, arg}
+use Rattle.nodes.specs.Problem.{Prob, count, arg}
 use Rattle.evaluation.specs.Readers.{Reads}
 use Rattle.evaluation.specs.inner.Lists.{ListsFrom, ListsFrom.keep, ListsFrom.skip}
 use Rattle.evaluation.specs.inner.Readers.{fresh, linked}

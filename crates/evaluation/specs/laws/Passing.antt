@@ -1,184 +1,35 @@
 -- What the pass over the nodes takes from the definitions.
 use mathlib.Core.Path.{_≡_, refl, sym, ap, _∙_, subst}
 use mathlib.Core.Bool.{Bool, true, false, true≢false}
-use mathlib.Core.Logic.{_⊎_, inl, inr}
+use mathlib.Core.Logic.{inl, inr}
 use mathlib.Core.List.{List}
 use Prim.Native.Nat.{ℕ, zero, suc, _+_, _*_, _/_, _≤_, _<_}
 use native.Mathlib.Omega.{arith}
 use native.Mathlib.Nat.{le-refl}
 use native.Mathlib.Numerals.{add-one}
 use native.Mathlib.Decide.{ℕ-discrete}
-use lib.Dec.{ltb}
-use borrow.Author.Tests.{lt-ltb, ltb-true, ltb-false}
-use lib.Bits.{bitOr, or-add-and, or-zero-l, and-le-l, and-le-r}
-use mir.Val.{boolByte}
 use lib.ListN.{length, getD, set, replicate, length-set, length-replicate}
 use lib.Seq.{getD-set-same, getD-set-other}
-use Rattle.problem.specs.declared.layout.Node.{Node}
-use Rattle.problem.specs.Layout.{nodeAt, widthAt}
-use Rattle.operators.specs.Table.{kindOf}
-use Rattle.operators.specs.Meaning.{meaning}
-use Rattle.operators.specs.inner.Ready.{Ready}
-use Rattle.picking.specs.declared.spot.Three.{Three}
-use Rattle.picking.specs.laws.Positions.{few-positions}
-use Rattle.evaluation.specs.declared.due.Operands.{Operands}
-use Rattle.evaluation.specs.declared.due.Operands.the-variants.{Are, Undue}
-use Rattle.evaluation.specs.declared.values.Taken.{Taken}
-use Rattle.evaluation.specs.declared.values.Taken.the-variants.{Value, Nothing}
-use Rattle.evaluation.specs.Problem.{Prob, oneOf, problem, valueOf, evalUp, evaluate}
+use Rattle.problem.specs.Layout.{nodeAt}
+use Rattle.nodes.specs.declared.values.Taken.{Taken}
+use Rattle.nodes.specs.declared.values.Taken.the-variants.{Value, Nothing}
+use Rattle.nodes.specs.Problem.{Prob, problem, valueOf, evalUp, evaluate}
 use Rattle.evaluation.specs.Lists.{Lists}
 use Rattle.evaluation.specs.Readers.{Chain, Reads, Above, itself, onward}
-use Rattle.evaluation.specs.inner.Good.{Good}
-use Rattle.evaluation.specs.inner.Evaluation.{operandCount, standingOp, Evaluable, Assigned}
+use Rattle.nodes.specs.inner.Good.{Good}
+use Rattle.nodes.specs.inner.Nodes.{Evaluable, Marked, ReadsMarked, Wanted, Takes, Takes.value, Takes.nothing}
+use Rattle.evaluation.specs.inner.Evaluation.{Assigned, Passed, Passed.renewed, Passed.left, Clear, Due, Asked, Asked.whole, Asked.part, Answered, Answered.whole, Answered.part, Changed, Renewal}
 use Rattle.evaluation.specs.inner.Lists.{Count}
-use Rattle.evaluation.specs.inner.Readers.{operandAt, Tells, Marked, ReadsMarked, Wanted, Askable, Offered, Offered.offered, Offered.withheld, Takes, Takes.value, Takes.nothing, Passed, Passed.renewed, Passed.left, Clear, Ended, Due, Asked, Asked.whole, Asked.part, Answered, Answered.whole, Answered.part, Changed, Renewal}
+use Rattle.evaluation.specs.inner.Readers.{Ended}
 use Rattle.evaluation.specs.laws.Decide.{lists-find, lists-length, lists-member}
-use Rattle.evaluation.specs.laws.Good.{good-of}
+use Rattle.nodes.specs.laws.Good.{good-of}
 use Rattle.evaluation.specs.laws.Values.{length-evalUp, evalUp-none, evalUp-step, evalUp-lt, evaluate-variable}
 use Rattle.evaluation.specs.laws.Lists.{count-none, count-keep, count-skip, lists-least}
 use Rattle.evaluation.specs.laws.Linking.{zeros-at}
-use Rattle.evaluation.specs.laws.Readings.{held-ready, held-value, own-value, constant-value, operands-below, evaluable, evaluated-all}
 use Rattle.evaluation.specs.laws.Chains.{chain-none, chain-first}
 use Rattle.evaluation.specs.laws.Above.{Renewed, renewed-none, renewed-all, renewed-skip, renewed-keep, above-from, above-through, reads-below}
 
--- ---- whether a node is to be evaluated
-
-or-none : (a b : ℕ) → bitOr a b ≡ 0 → (a ≡ 0) × (b ≡ 0)
-or-none a b e = let s = or-add-and a b in (omega (arith, e, s, and-le-r a b), omega (arith, e, s, and-le-l a b))
-
-or-some : (a b : ℕ) → 0 < bitOr a b → (0 < a) ⊎ (0 < b)
-or-some zero b h = inr (rw (or-zero-l b) at h)
-or-some (suc a) b h = inl (omega arith)
-
-byte-some : (t : Bool) → 0 < boolByte t → t ≡ true
-byte-some true h = refl
-byte-some false h = absurd (omega arith)
-
-one-some : (t : Bool) (x : ℕ) → 0 < oneOf t x 0 → (t ≡ true) × (0 < x)
-one-some true x h = (refl, h)
-one-some false x h = absurd (omega arith)
-
-module _ (marks : List ℕ) (n : Node) (all : Bool) (k : ℕ) where
-  abbrev markOf : ℕ → ℕ
-  markOf i = oneOf (ltb i k) (getD marks (operandAt n i) 0) 0
-
-  abbrev first : ℕ
-  first = bitOr (boolByte all) (markOf 0)
-
-  abbrev second : ℕ
-  second = bitOr first (markOf 1)
-
-  abbrev joined : ℕ
-  joined = bitOr second (markOf 2)
-
-  reads-at : k ≡ operandCount n → (i : ℕ) → 0 < markOf i → ReadsMarked marks n
-  reads-at q i h =
-      let w = one-some (ltb i k) (getD marks (operandAt n i) 0) h in
-      record { position = i; there = rw (← q) (ltb-true i k (w .0)); is = w .1 }
-
-  joined-some : k ≡ operandCount n → 0 < joined → Wanted all marks n
-  joined-some q h =
-      elim (or-some second (markOf 2) h) [
-        | inr c ↦ inr (reads-at q 2 c)
-        | inl ab ↦
-            elim (or-some first (markOf 1) ab) [
-              | inr b ↦ inr (reads-at q 1 b)
-              | inl a ↦ elim (or-some (boolByte all) (markOf 0) a) [ inr m ↦ inr (reads-at q 0 m) | inl t ↦ inl (byte-some all t) ]
-            ]
-      ]
-
-  second-none : joined ≡ 0 → second ≡ 0
-  second-none e = or-none second (markOf 2) e .0
-
-  first-none : joined ≡ 0 → first ≡ 0
-  first-none e = or-none first (markOf 1) (second-none e) .0
-
-  none-at : joined ≡ 0 → (i : ℕ) → i < 3 → markOf i ≡ 0
-  none-at e zero l = or-none (boolByte all) (markOf 0) (first-none e) .1
-  none-at e (suc zero) l = or-none first (markOf 1) (second-none e) .1
-  none-at e (suc (suc zero)) l = or-none second (markOf 2) e .1
-  none-at e (suc (suc (suc i))) l = absurd (omega arith)
-
-  joined-none : k ≡ operandCount n → joined ≡ 0 → Wanted all marks n → ⊥
-  joined-none q e (inl a) = let z = or-none (boolByte all) (markOf 0) (first-none e) .0 in omega (arith, rw a at z)
-  joined-none q e (inr r) =
-      let few = few-positions (n .kind) in
-      let z = none-at e (r .position) (omega (arith, r .there)) in
-      let there : r .position < k = rw q (r .there) in
-      omega (arith, r .is, rw (lt-ltb (r .position) k there) at z)
-
-  pub due-tells : k ≡ operandCount n → Tells (ltb 0 joined) (Wanted all marks n)
-  due-tells q =
-      record {
-        yes = λ e. joined-some q (ltb-true 0 joined e);
-        no = λ e. joined-none q (let z = ltb-false 0 joined e in omega (arith, z));
-      }
-
 -- ---- one node
-
--- its operands have values and marks
-pub askable :
-    {s vs : List ℕ} {i k : ℕ} {m : Node} (marks : List ℕ)
-    → m ≡ nodeAt s i
-    → Evaluable s vs i × (problem s .nodes ≤ length marks)
-    → k ≡ operandCount m
-    → Askable m k (length vs) (length marks)
-askable {s} {vs} {i} marks e v q =
-    record {
-      counted = q;
-      valued = λ j h. omega (arith, operands-below s vs i e (v .0) j h, v .0 .inside, v .0 .places);
-      marked = λ j h. omega (arith, operands-below s vs i e (v .0) j h, v .0 .inside, v .1);
-    }
-
-module _ {s vs marks : List ℕ} {i : ℕ} {all : Bool} {m : Node} (e : m ≡ nodeAt s i) where
-  -- a variable, or a constant
-  pub own-taken : m .kind ≡ 0 → all ≡ true → Takes s i all vs marks (Value (getD vs i 0))
-  own-taken k a = value (inl a) (own-value s vs i (rw e at k))
-
-  pub constant-taken : m .kind ≡ 1 → all ≡ true → Takes s i all vs marks (Value (m .lo))
-  constant-taken k a = value {x = m .lo} (inl a) (rw e (constant-value s vs i (rw e at k)))
-
-  pub own-kept : 0 ≡ operandCount m → all ≡ false → Takes s i all vs marks Nothing
-  own-kept q a = nothing (λ w. elim w [ inl b ↦ true≢false (sym b ∙ a) | inr r ↦ omega (arith, r .there, rw e at q) ])
-
-  -- an operator
-  pub kept : {r : Operands} → Offered all marks vs m r → r ≡ Undue → Takes s i all vs marks Nothing
-  kept o q = not-due (rw q at o)
-    where
-      not-due : Offered all marks vs m Undue → Takes s i all vs marks Nothing
-      not-due (withheld x) = nothing (λ w. x (rw e w))
-
--- what an arm of the match knows: node i was read as m, and its operands hold x
-pub record Arm (s vs marks : List ℕ) (i : ℕ) (all : Bool) (m : Node) (x : Three) : Type 0 where
-  pub wanted : Wanted all marks (nodeAt s i)
-  pub ready : Ready (standingOp s m) (x .a) (x .b) (x .c)
-  pub gives :
-      meaning (kindOf (m .kind)) (m .width) (widthAt s (m .a)) (widthAt s (m .b)) (m .b) (x .a) (x .b) (x .c) ≡ valueOf (problem s) vs i
-
-pub arm :
-    {s vs marks : List ℕ} {i : ℕ} {all : Bool} {m : Node} {x : Three} {r : Operands}
-    → m ≡ nodeAt s i
-    → Evaluable s vs i × (problem s .nodes ≤ length marks)
-    → Offered all marks vs m r
-    → r ≡ Are x
-    → 2 ≤ m .kind
-    → Arm s vs marks i all m x
-arm {s} {vs} {marks} {i} {all} {m} {x} e v o q k = is-due (rw q at o)
-  where
-    is-due : Offered all marks vs m (Are x) → Arm s vs marks i all m x
-    is-due (offered w h) =
-        record {
-          wanted = rw e at w;
-          ready = rw (h, e) (held-ready s vs i (v .0) (rw e at k));
-          gives = rw (h, e) (held-value s vs i (rw e at k));
-        }
-
-pub taken :
-    {s vs marks : List ℕ} {i r : ℕ} {all : Bool} {m : Node} {x : Three}
-    → Arm s vs marks i all m x
-    → r ≡ meaning (kindOf (m .kind)) (m .width) (widthAt s (m .a)) (widthAt s (m .b)) (m .b) (x .a) (x .b) (x .c)
-    → Takes s i all vs marks (Value r)
-taken a e = value (a .wanted) (e ∙ a .gives)
 
 module _ {s vs marks : List ℕ} {i : ℕ} {all : Bool} {r : Taken} (t : Takes s i all vs marks r) where
   pub passed-over : r ≡ Nothing → Passed s i all vs marks vs marks 0
@@ -200,6 +51,28 @@ passed-few (left x p q e) = omega arith
 pub passed-long : {s vs marks us next : List ℕ} {i r : ℕ} {all : Bool} → Passed s i all vs marks us next r → length next ≡ length marks
 passed-long {marks = marks} {i = i} (renewed m p q e) = ap length q ∙ length-set marks i 1
 passed-long (left x p q e) = ap length q
+
+-- ---- the pass over all nodes
+
+-- the first i nodes are evaluated
+pub evaluable :
+    (s vs us : List ℕ) (i : ℕ)
+    → Assigned s vs
+    → i < problem s .nodes
+    → us ≡ evalUp (problem s) i vs
+    → Evaluable s us i
+evaluable s vs us i a l e =
+    record {
+      accepted = a .accepted;
+      places = rw (e, length-evalUp (problem s) i vs) (a .places);
+      inside = l;
+      narrow = λ m h. rw e (evalUp-lt (problem s) (good-of s (a .accepted)) vs (a .places) (a .agrees) i (omega arith) m h);
+    }
+
+-- all nodes are
+pub evaluated-all : (P : Prob) (vs us : List ℕ) (i : ℕ) → i ≡ P .nodes → us ≡ evalUp P i vs → us ≡ evaluate P vs
+unfolding evaluate
+evaluated-all P vs us i n e = rw n at e
 
 -- ---- the pass over what is above v
 

@@ -10,11 +10,11 @@ use native.Mathlib.Decide.{ℕ-discrete, decLt}
 use lib.ListN.{length, getD, set, length-set}
 use lib.Seq.{getD-set-same, getD-set-other, lt-length-set}
 use Rattle.words.specs.laws.Agree.{agrees-lt}
-use Rattle.evaluation.specs.Problem.{Prob, arg, Variable, valueOf, evalUp, evaluate}
-use Rattle.evaluation.specs.Values.{Evaluated, VariablesAgree}
-use Rattle.evaluation.specs.inner.Good.{Good, Held}
-use Rattle.evaluation.specs.laws.Nodes.{value-own, value-same, value-lt}
-use Rattle.evaluation.specs.laws.Upward.{Store, up-above, up-at, up-kept}
+use Rattle.nodes.specs.Problem.{Prob, arg, Variable, valueOf, evalUp, evaluate}
+use Rattle.nodes.specs.Values.{Evaluated, VariablesAgree}
+use Rattle.nodes.specs.inner.Good.{Good, Held}
+use Rattle.nodes.specs.laws.Nodes.{value-own, value-same, value-lt}
+use Rattle.nodes.specs.laws.Upward.{Store, up-above, up-at, up-kept}
 
 pub list-store : Store (List ℕ) ℕ (λ l n. getD l n 0) set (λ l n. n < length l)
 list-store =

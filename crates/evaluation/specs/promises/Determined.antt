@@ -1,15 +1,12 @@
 -- The contract of each public function determines its result and every lent place: any two that it allows are equal.
-use mathlib.Core.Path.{_≡_, refl, sym, ap, _∙_}
+use mathlib.Core.Path.{_≡_, refl, sym, _∙_}
 use mathlib.Core.List.{List}
 use Prim.Native.Nat.{ℕ, _*_, _<_}
 use lib.ListN.{getD}
-use Rattle.problem.specs.declared.layout.Node.{Node}
-use Rattle.picking.specs.declared.spot.Spot.{Spot}
-use Rattle.picking.specs.Spot.{at}
-use Rattle.evaluation.specs.Problem.{problem, Pairs, evaluate}
+use Rattle.nodes.specs.Problem.{problem, evaluate}
 use Rattle.evaluation.specs.Readers.{Chain, Above}
-use Rattle.evaluation.specs.inner.Evaluation.{ids, Fills, spotIn}
-use Rattle.evaluation.specs.inner.Readers.{Indexed, Renewal}
+use Rattle.evaluation.specs.inner.Readers.{Indexed}
+use Rattle.evaluation.specs.inner.Evaluation.{Renewal}
 use Rattle.evaluation.specs.laws.Chains.{chain-unique}
 use Rattle.evaluation.specs.laws.Lists.{lists-unique, count-unique}
 
@@ -23,21 +20,6 @@ pub evaluate-determined :
     → after′ ≡ evaluate (problem s) before
     → after ≡ after′
 evaluate-determined s before after after′ = equal
-
-pub fill-determined :
-    (s los his los′ his′ los″ his″ : List ℕ)
-    → Fills s los his los′ his′
-    → Fills s los his los″ his″
-    → (los′ ≡ los″) × (his′ ≡ his″)
-fill-determined s los his los′ his′ los″ his″ f g =
-    let e = equal f g in (ap (λ (w : Pairs). w .los) e, ap (λ (w : Pairs). w .his) e)
-
-pub spot-of-determined :
-    (s los his vs : List ℕ) (n : Node) (r t : Spot) → r ≡ spotIn s los his vs n → t ≡ spotIn s los his vs n → r ≡ t
-spot-of-determined s los his vs n r t = equal
-
-pub operand-determined : (n : Node) (i r t : ℕ) → r ≡ at (ids n) i → t ≡ at (ids n) i → r ≡ t
-operand-determined n i r t = equal
 
 -- the nodes of every chain are determined; by which of its positions a reader is linked, and what a slot in no chain holds, is not
 -- (docs/CONTRACTS.md)

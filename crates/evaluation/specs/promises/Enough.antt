@@ -6,11 +6,11 @@ use native.Mathlib.Nat.{le-refl}
 use lib.ListN.{length, set}
 use Rattle.problem.specs.declared.Checked.the-variants.{Accepted}
 use Rattle.problem.specs.Refusals.{checked}
-use Rattle.evaluation.specs.Problem.{problem, Variable, evaluate}
-use Rattle.evaluation.specs.Values.{Evaluated}
+use Rattle.nodes.specs.Problem.{problem, Variable, evaluate}
+use Rattle.nodes.specs.Values.{Evaluated}
 use Rattle.evaluation.specs.Lists.{Lists}
 use Rattle.evaluation.specs.Readers.{Above, evalOver}
-use Rattle.evaluation.specs.laws.Good.{good-of}
+use Rattle.nodes.specs.laws.Good.{good-of}
 use Rattle.evaluation.specs.laws.Above.{enough}
 
 -- of evaluated values vs, variable v takes x: the nodes above v, in ascending id, are enough

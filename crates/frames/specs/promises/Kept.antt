@@ -12,8 +12,8 @@ use lib.ListN.{length, getD, drop, length-append, List·getD-append}
 use lib.Seq.{getD-append-seam, getD-take, getD-drop}
 use Rattle.problem.specs.declared.Checked.the-variants.{Accepted}
 use Rattle.problem.specs.declared.Refusal.{Refusal}
-use Rattle.evaluation.specs.Problem.{problem}
-use Rattle.evaluation.specs.Values.{Evaluated, NodesAgree}
+use Rattle.nodes.specs.Problem.{problem}
+use Rattle.nodes.specs.Values.{Evaluated, NodesAgree}
 use Rattle.evaluation.specs.Lists.{Lists, Lists.done, Lists.keep, Lists.skip}
 use Rattle.search.specs.declared.Verdict.{Verdict}
 use Rattle.search.specs.declared.Outcome.{Outcome}

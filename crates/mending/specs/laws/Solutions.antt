@@ -13,10 +13,10 @@ use Rattle.operators.specs.laws.Meaning.{meaning-alike}
 use Rattle.problem.specs.declared.layout.Node.{Node}
 use Rattle.problem.specs.Layout.{nodeCount, rootCount, nodeAt, widthAt, rootAt}
 use Rattle.problem.specs.inner.Facts.{HeaderFacts}
-use Rattle.evaluation.specs.Problem.{problem, valueOf}
-use Rattle.evaluation.specs.Values.{Evaluated, VariablesAgree}
-use Rattle.evaluation.specs.laws.Nodes.{which, variable, constant, inner}
-use Rattle.evaluation.specs.laws.Readings.{own-value, constant-value, gives-value}
+use Rattle.nodes.specs.Problem.{problem, valueOf}
+use Rattle.nodes.specs.Values.{Evaluated, VariablesAgree}
+use Rattle.nodes.specs.laws.Nodes.{which, variable, constant, inner}
+use Rattle.nodes.specs.laws.Readings.{own-value, constant-value, gives-value}
 use Rattle.mending.specs.Order.{operandsOf, field, old, new}
 use Rattle.mending.specs.Mended.{renumbered, mended}
 use Rattle.mending.specs.Solutions.{Solution}

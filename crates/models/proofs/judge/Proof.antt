@@ -1,7 +1,7 @@
 -- The problem's refusal, or what is left with places to work in.
 use mathlib.Core.Path.{refl, sym, _∙_}
 use borrow.Author.Needs.{needs}
-use Rattle.evaluation.specs.Problem.{zeros}
+use Rattle.nodes.specs.Problem.{zeros}
 use Rattle.models.specs.laws.Values.{problem-wrong, problem-right}
 use Rattle.models.proofs.judge.Statement.{statement}
 use Rattle.models.proofs.judge.Tie as tie

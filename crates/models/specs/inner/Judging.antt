@@ -11,7 +11,7 @@ use Rattle.texts.specs.Numbers.{numbered}
 use Rattle.problem.specs.declared.Checked.the-variants.{Accepted}
 use Rattle.problem.specs.Layout.{nodeCount, rootCount}
 use Rattle.problem.specs.Refusals.{checked}
-use Rattle.evaluation.specs.Problem.{problem, zeros, evaluate}
+use Rattle.nodes.specs.Problem.{problem, zeros, evaluate}
 use Rattle.models.specs.declared.Judged.{Judged}
 use Rattle.models.specs.declared.Judged.the-variants.{Yes, No, Refused}
 use Rattle.models.specs.declared.names.NameLine.{NameLine}

@@ -13,7 +13,7 @@ use borrow.Author.Tests.{lt-ltb, le-ltb, ltb-false, eq-eqb, ne-eqb}
 use Rattle.texts.specs.Runs.{equal}
 use Rattle.texts.specs.laws.Runs.{equal-same, equal-self}
 use Rattle.texts.specs.Numbers.{numbered}
-use Rattle.evaluation.specs.Problem.{zeros}
+use Rattle.nodes.specs.Problem.{zeros}
 use Rattle.models.specs.Names.{position, isAgain, some}
 use Rattle.models.specs.Entries.{Entry, noEntry}
 use Rattle.models.specs.Judgement.{namesOf}

@@ -10,7 +10,7 @@ use lib.ListN.{length, getD, set, drop, length-drop}
 use borrow.Author.Tests.{eq-eqb, ne-eqb, eqb-false}
 use Rattle.texts.specs.Numbers.{numbered}
 use Rattle.problem.specs.Layout.{widthAt}
-use Rattle.evaluation.specs.Problem.{zeros}
+use Rattle.nodes.specs.Problem.{zeros}
 use Rattle.models.specs.declared.Judged.{Judged}
 use Rattle.models.specs.declared.Judged.the-variants.{Yes, Refused}
 use Rattle.models.specs.Tokens.{tokens}

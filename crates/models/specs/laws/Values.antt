@@ -21,8 +21,8 @@ use Rattle.problem.specs.Layout.{nodeCount, rootCount, nodeAt, widthAt}
 use Rattle.problem.specs.Refusals.{bitOutside, checked}
 use Rattle.problem.specs.laws.Tests.{eq-yes, or-no, and-no}
 use Rattle.problem.specs.laws.Facts.{accepted-facts, within-right}
-use Rattle.evaluation.specs.Problem.{problem, zeros, evaluate}
-use Rattle.evaluation.specs.Values.{VariablesAgree}
+use Rattle.nodes.specs.Problem.{problem, zeros, evaluate}
+use Rattle.nodes.specs.Values.{VariablesAgree}
 use Rattle.evaluation.specs.inner.Evaluation.{Assigned}
 use Rattle.models.specs.declared.Judged.{Judged}
 use Rattle.models.specs.declared.Judged.the-variants.{Yes, Refused}

@@ -14,7 +14,7 @@ use borrow.Author.Tests.{eq-eqb, ne-eqb}
 use Rattle.problem.specs.Layout.{nodeCount, nodeAt}
 use Rattle.models.specs.Judgement.{variablesBelow, variables}
 use Rattle.problem.specs.laws.Facts.{accepted-facts}
-use Rattle.evaluation.specs.Problem.{zeros}
+use Rattle.nodes.specs.Problem.{zeros}
 use Rattle.models.specs.inner.Judging.{Kept, Prepared}
 
 append-nil : (l : List ℕ) → (l ++ []) ≡ l

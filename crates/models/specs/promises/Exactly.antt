@@ -14,9 +14,9 @@ use Rattle.problem.specs.declared.Checked.the-variants.{Accepted}
 use Rattle.problem.specs.declared.Checked.the-variants as checks
 use Rattle.problem.specs.Layout.{nodeCount, rootCount, rootAt}
 use Rattle.problem.specs.Refusals.{checked}
-use Rattle.evaluation.specs.Problem.{problem, evaluate}
-use Rattle.evaluation.specs.inner.Good.{Good}
-use Rattle.evaluation.specs.laws.Good.{good-of}
+use Rattle.nodes.specs.Problem.{problem, evaluate}
+use Rattle.nodes.specs.inner.Good.{Good}
+use Rattle.nodes.specs.laws.Good.{good-of}
 use Rattle.evaluation.specs.laws.Values.{evalUp-lt}
 use Rattle.models.specs.declared.Judged.{Judged}
 use Rattle.models.specs.declared.Judged.the-variants.{Yes, No, Refused}

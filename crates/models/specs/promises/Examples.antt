@@ -11,7 +11,7 @@ use Rattle.texts.specs.Runs.{ascii, isLower, isOneOf, isSymbolByte, isWhite, is
 use Rattle.texts.specs.Numbers.{digitOf, allIn, digitsIn, valueFrom, valueIn}
 use Rattle.problem.specs.Layout.{nodeOf, nodeAt, widthAt, rootAt, le16, le32, le64}
 use Rattle.problem.specs.Refusals.{bitOutside}
-use Rattle.evaluation.specs.Problem.{problem, zeros, three, spotOf, valueOf, evalUp, evaluate}
+use Rattle.nodes.specs.Problem.{problem, zeros, three, spotOf, valueOf, evalUp, evaluate}
 use Rattle.models.specs.declared.Judged.{Judged}
 use Rattle.models.specs.declared.Judged.the-variants.{Yes, No, Refused}
 use Rattle.models.specs.Pieces.{chop}

@@ -11,7 +11,7 @@ use native.Mathlib.Nat.{lt-suc-self}
 use lib.ListN.{length, getD}
 use Rattle.problem.specs.Layout.{nodeCount, rootCount}
 use Rattle.problem.specs.Refusals.{checked}
-use Rattle.evaluation.specs.Problem.{problem, evaluate}
+use Rattle.nodes.specs.Problem.{problem, evaluate}
 use Rattle.models.specs.declared.Judged.{Judged}
 use Rattle.models.specs.declared.Judged.the-variants.{Yes, No, Refused}
 use Rattle.models.specs.Names.{names}

@@ -1,5 +1,5 @@
 -- The pairs and the index are what the search asks for.
-use Rattle.evaluation.specs.laws.Readings.{filled}
+use Rattle.nodes.specs.laws.Readings.{filled}
 use borrow.Author.Needs.{needs}
 use Rattle.search.proofs.prepare.Statement.{statement}
 use Rattle.search.proofs.prepare.Tie as tie

@@ -1,7 +1,7 @@
 -- A refusal by 1 to 14, or the start.
 use native.Mathlib.Omega.{arith}
-use Rattle.evaluation.specs.Problem.{problem}
-use Rattle.evaluation.specs.laws.Good.{good-of}
+use Rattle.nodes.specs.Problem.{problem}
+use Rattle.nodes.specs.laws.Good.{good-of}
 use Rattle.search.specs.Call.{Called.refuses}
 use Rattle.search.specs.laws.Room.{unprepared}
 use Rattle.search.proofs.Runs.{lent-of, refused-of}

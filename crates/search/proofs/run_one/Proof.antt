@@ -1,7 +1,7 @@
 -- 15, or the run.
 use mathlib.Core.Path.{sym, _∙_}
 use Rattle.words.specs.laws.Decides.{decides-yes, decides-no}
-use Rattle.evaluation.specs.Problem.{problem}
+use Rattle.nodes.specs.Problem.{problem}
 use Rattle.search.specs.Run.{Whole.closed, Whole.searched}
 use Rattle.search.specs.Call.{Called.refuses, Called.runs}
 use Rattle.search.specs.laws.Starts.{refusals-lent}

@@ -3,7 +3,7 @@ use mathlib.Core.Path.{ap, _∙_}
 use Prim.Native.Nat.{_-_}
 use native.Mathlib.Omega.{arith}
 use lib.ListN.{length}
-use Rattle.evaluation.specs.Problem.{problem}
+use Rattle.nodes.specs.Problem.{problem}
 use Rattle.search.proofs.Runs.{Going, going-start, going-model, going-spent, going-draws, going-ended, going-fits, going-on}
 use borrow.Author.Needs.{needs}
 use Rattle.search.proofs.search.Statement.{statement}

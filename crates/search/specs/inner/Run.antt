@@ -2,7 +2,7 @@
 use Prim.Native.Nat.{ℕ, zero, suc, _+_, _*_, _^_, _≤_, _<_}
 use Rattle.words.specs.Agree.{Agrees}
 use Rattle.words.specs.inner.Decides.{Decides}
-use Rattle.evaluation.specs.Problem.{Prob, pairLo, pairHi, problem, evaluate}
+use Rattle.nodes.specs.Problem.{Prob, pairLo, pairHi, problem, evaluate}
 use mathlib.Core.Path.{_≡_}
 use mathlib.Core.Bool.{Bool, true, false}
 use mathlib.Core.List.{List, [], _∷_, _++_}
@@ -24,8 +24,8 @@ use Rattle.evaluation.specs.Readers.{Above}
 use Rattle.evaluation.specs.inner.Lists.{Count}
 use Rattle.search.specs.Step.{Out, goes, blocked}
 use Rattle.search.specs.Run.{End, sets, stuck, short, ClosedRoot, Unsatisfied, Move, Run}
-use Rattle.evaluation.specs.inner.Good.{Held}
-use Rattle.evaluation.specs.inner.Evaluation.{Unfilled, Filled}
+use Rattle.nodes.specs.inner.Good.{Held}
+use Rattle.nodes.specs.inner.Nodes.{Unfilled, Filled}
 use Rattle.evaluation.specs.inner.Readers.{Unindexed, Indexed}
 
 module _ (P : Prob) where

@@ -9,7 +9,7 @@ use native.Mathlib.Decide.{ℕ-discrete}
 use lib.Dec.{eqb}
 use lib.ListN.{getD}
 use borrow.Author.Tests.{eq-eqb, ne-eqb}
-use Rattle.evaluation.specs.Problem.{oneOf, Prob, Variable}
+use Rattle.nodes.specs.Problem.{oneOf, Prob, Variable}
 use Rattle.search.specs.Reach.{apart}
 
 module _ (P : Prob) where

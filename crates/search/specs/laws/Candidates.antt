@@ -10,9 +10,9 @@ use Rattle.words.specs.laws.Agree.{within-hi, within-le}
 use Rattle.picking.specs.declared.spot.Three.{Three}
 use Rattle.picking.specs.declared.spot.Spot.{Spot}
 use Rattle.picking.specs.Spot.{at, put, positions, Other, value, Essential, NoneEssential, Candidate}
-use Rattle.evaluation.specs.Problem.{three}
+use Rattle.nodes.specs.Problem.{three}
 use Rattle.picking.specs.laws.Positions.{few-positions, at-put-same, at-put-other, value-used}
-use Rattle.evaluation.specs.laws.Positions.{at-three}
+use Rattle.nodes.specs.laws.Positions.{at-three}
 use Rattle.evaluation.specs.laws.Decide.{dec-not, dec-both, dec-either, dec-map, dec-agrees, Some, dec-some, dec-all, DecBelow}
 
 -- v where A holds, else 0

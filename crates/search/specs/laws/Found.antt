@@ -11,17 +11,17 @@ use lib.ListN.{length, getD, set, length-append, length-set}
 use lib.Seq.{getD-set-same, getD-set-other}
 use Rattle.search.specs.declared.Verdict.{Verdict}
 use Rattle.search.specs.declared.Answer.{Answer}
-use Rattle.evaluation.specs.Problem.{Prob, Variable, evaluate}
+use Rattle.nodes.specs.Problem.{Prob, Variable, evaluate}
 use Rattle.search.specs.Run.{End, sets, Walk, Move, Move.from-root, Unsatisfied, AllOne, answer, Run, Run.model, Run.moved, Whole, Whole.searched}
-use Rattle.evaluation.specs.Values.{VariablesAgree, NodesAgree}
+use Rattle.nodes.specs.Values.{VariablesAgree, NodesAgree}
 use Rattle.search.specs.Reach.{Solution, apart}
 use Rattle.evaluation.specs.Height.{Longest}
-use Rattle.evaluation.specs.inner.Good.{Good, Held}
+use Rattle.nodes.specs.inner.Good.{Good, Held}
 use Rattle.evaluation.specs.laws.Decide.{dec-not, Some, all-or-some, Listed, listed, Stands, lists-find, Member, lists-member}
 use Rattle.evaluation.specs.laws.Values.{evaluate-variable, evaluated-same}
 use Rattle.evaluation.specs.Readers.{Above}
 use Rattle.evaluation.specs.laws.Above.{above-listed}
-use Rattle.evaluation.specs.laws.Pairs.{all-agree, every-node}
+use Rattle.nodes.specs.laws.Pairs.{all-agree, every-node}
 use Rattle.search.specs.laws.Moves.{Lands}
 use Rattle.search.specs.laws.Runs.{kept-start, kept-after, closed-none}
 use Rattle.search.specs.laws.Apart.{apart-none, apart-le, apart-lt}

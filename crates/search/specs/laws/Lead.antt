@@ -14,17 +14,17 @@ use Rattle.words.specs.laws.Agree.{agrees-only}
 use Rattle.words.specs.laws.Pick.{pick-self}
 use Rattle.picking.specs.declared.spot.Spot.{Spot}
 use Rattle.picking.specs.Spot.{at, put, positions, Other, value, Admitted, Essential, NoneEssential, Consistent, Candidate}
-use Rattle.evaluation.specs.Problem.{Prob, count, arg, Variable, spotOf, spot, pairLo, pairHi}
+use Rattle.nodes.specs.Problem.{Prob, count, arg, Variable, spotOf, spot, pairLo, pairHi}
 use Rattle.search.specs.Step.{Follows, Follows.consistent, Step, Step.followed, goes}
 use Rattle.search.specs.Run.{sets, Walk, Walk.arrives, Walk.onward}
-use Rattle.evaluation.specs.Values.{Evaluated, NodesAgree}
+use Rattle.nodes.specs.Values.{Evaluated, NodesAgree}
 use Rattle.evaluation.specs.Height.{Chain, Chain.ends, Chain.link}
-use Rattle.evaluation.specs.inner.Good.{Good}
+use Rattle.nodes.specs.inner.Good.{Good}
 use Rattle.picking.specs.laws.Positions.{few-positions, put-same}
 use Rattle.evaluation.specs.laws.Decide.{Some, dec-some, all-or-some, Listed, listed, lists-length, Stands, lists-find}
 use Rattle.search.specs.laws.Candidates.{dec-essential, dec-candidate}
-use Rattle.evaluation.specs.laws.Nodes.{variable, constant, inner, which, at-column, operands, value-constant, value-operator, value-same, operand-node, width-at}
-use Rattle.evaluation.specs.laws.Pairs.{agreeing-lt}
+use Rattle.nodes.specs.laws.Nodes.{variable, constant, inner, which, at-column, operands, value-constant, value-operator, value-same, operand-node, width-at}
+use Rattle.nodes.specs.laws.Pairs.{agreeing-lt}
 
 -- words that a tape can hold
 abbrev pub Small : List ℕ → Type 0

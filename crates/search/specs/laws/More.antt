@@ -9,7 +9,7 @@ use Rattle.problem.specs.declared.Checked.the-variants.{Accepted}
 use Rattle.search.specs.declared.Verdict.{Verdict}
 use Rattle.search.specs.declared.Answer.{Answer}
 use Rattle.search.specs.Answers.{said}
-use Rattle.evaluation.specs.Problem.{Prob, problem, evaluate, arg, spot, Variable}
+use Rattle.nodes.specs.Problem.{Prob, problem, evaluate, arg, spot, Variable}
 use Rattle.evaluation.specs.Lists.{Lists}
 use Rattle.evaluation.specs.laws.Lists.{lists-unique}
 use Rattle.search.specs.Step.{Step, goes, blocked}

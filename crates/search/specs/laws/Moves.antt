@@ -11,14 +11,14 @@ use Rattle.words.specs.laws.Agree.{agrees-of-within, within-refl}
 use Rattle.words.specs.laws.Pick.{pick-member}
 use Rattle.picking.specs.declared.spot.Spot.{Spot}
 use Rattle.picking.specs.Spot.{at, positions, Candidate}
-use Rattle.evaluation.specs.Problem.{Prob, count, arg, Variable, spotOf, spot, pairLo, pairHi}
+use Rattle.nodes.specs.Problem.{Prob, count, arg, Variable, spotOf, spot, pairLo, pairHi}
 use Rattle.evaluation.specs.Lists.{Lists}
 use Rattle.search.specs.Step.{Out, goes, blocked, Follows, Follows.inverse, Follows.consistent, Follows.nothing, Step, Step.none-left, Step.followed}
 use Rattle.search.specs.Run.{End, sets, stuck, short, Walk, Walk.arrives, Walk.unserved, Walk.stops, Walk.onward, Unsatisfied, AllOne, Move, Move.no-word, Move.from-root, ClosedRoot}
-use Rattle.evaluation.specs.inner.Good.{Good}
+use Rattle.nodes.specs.inner.Good.{Good}
 use Rattle.evaluation.specs.laws.Decide.{Stands, lists-find, Member, lists-member}
-use Rattle.evaluation.specs.laws.Nodes.{at-column}
-use Rattle.evaluation.specs.laws.Pairs.{pairs-ternary}
+use Rattle.nodes.specs.laws.Nodes.{at-column}
+use Rattle.nodes.specs.laws.Pairs.{pairs-ternary}
 use Rattle.search.specs.inner.Run.{Aimed}
 
 -- a step goes to a candidate of the node, with a value that agrees with its pair

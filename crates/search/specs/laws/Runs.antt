@@ -19,12 +19,12 @@ use Rattle.search.specs.declared.Verdict.{Verdict}
 use Rattle.search.specs.declared.Outcome.{Outcome}
 use Rattle.search.specs.declared.Answer.{Answer}
 use Rattle.search.specs.Answers.{name, said}
-use Rattle.evaluation.specs.Problem.{Prob, evaluate}
+use Rattle.nodes.specs.Problem.{Prob, evaluate}
 use Rattle.search.specs.Run.{AllOne, ClosedRoot, answer, Run, Run.model, Run.spent, Run.ended, Run.moved, Run.held, Whole, Whole.closed, Whole.searched}
-use Rattle.evaluation.specs.Values.{VariablesAgree, NodesAgree}
-use Rattle.evaluation.specs.inner.Good.{Good, Held}
+use Rattle.nodes.specs.Values.{VariablesAgree, NodesAgree}
+use Rattle.nodes.specs.inner.Good.{Good, Held}
 use Rattle.evaluation.specs.laws.Values.{length-evaluate, evaluate-above, held-evaluate}
-use Rattle.evaluation.specs.laws.Pairs.{pairs-own, every-node}
+use Rattle.nodes.specs.laws.Pairs.{pairs-own, every-node}
 use Rattle.search.specs.laws.Moves.{Lands, move-lands, move-spends}
 
 module _ (P : Prob) (g : Good P) where

@@ -18,7 +18,7 @@ use Rattle.problem.specs.Refusals.{firstOf, _then_, firstBelow, bitOutside}
 use Rattle.problem.specs.laws.Tests.{lt-no, eq-yes, or-no, and-no}
 use Rattle.problem.specs.laws.First.{none-of, of-none, then-accepted}
 use Rattle.problem.specs.laws.Facts.{within-right}
-use Rattle.evaluation.specs.Problem.{problem, Variable}
+use Rattle.nodes.specs.Problem.{problem, Variable}
 use Rattle.search.specs.Call.{placesFault, disagrees, startFault, refusals}
 use Rattle.search.specs.inner.Run.{Lent}
 

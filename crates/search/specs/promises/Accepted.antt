@@ -7,8 +7,8 @@ use Rattle.problem.specs.declared.Checked.the-variants.{Accepted}
 use Rattle.problem.specs.Layout.{nodeCount}
 use Rattle.problem.specs.Refusals.{checked}
 use Rattle.problem.specs.laws.First.{then-left, then-right, then-accepted, first-each, first-all}
-use Rattle.evaluation.specs.Problem.{problem}
-use Rattle.evaluation.specs.Values.{VariablesAgree}
+use Rattle.nodes.specs.Problem.{problem}
+use Rattle.nodes.specs.Values.{VariablesAgree}
 use Rattle.search.specs.Call.{placesFault, startFault, refusals}
 use Rattle.search.specs.laws.Starts.{places-right, start-right}
 

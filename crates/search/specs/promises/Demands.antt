@@ -17,16 +17,16 @@ use Rattle.search.specs.declared.Verdict.{Verdict}
 use Rattle.search.specs.declared.Outcome.{Outcome}
 use Rattle.search.specs.declared.Answer.{Answer}
 use Rattle.search.specs.Answers.{numberOf, placeOf, name, said}
-use Rattle.evaluation.specs.Problem.{Prob, problem, Variable, evaluate}
+use Rattle.nodes.specs.Problem.{Prob, problem, Variable, evaluate}
 use Rattle.search.specs.Run.{AllOne, ClosedRoot, answer, Whole, Whole.closed, Whole.searched}
 use Rattle.search.specs.Call.{refusals, refused, Called, Called.refuses, Called.runs}
-use Rattle.evaluation.specs.Values.{Evaluated, NodesAgree}
+use Rattle.nodes.specs.Values.{Evaluated, NodesAgree}
 use Rattle.search.specs.Reach.{Solution, apart}
 use Rattle.evaluation.specs.Height.{Longest}
-use Rattle.evaluation.specs.inner.Good.{Good}
-use Rattle.evaluation.specs.laws.Good.{good-of}
+use Rattle.nodes.specs.inner.Good.{Good}
+use Rattle.nodes.specs.laws.Good.{good-of}
 use Rattle.evaluation.specs.laws.Values.{length-evaluate, evaluate-above, evaluate-variable, evaluate-fixed, evaluated-same}
-use Rattle.evaluation.specs.laws.Pairs.{every-node}
+use Rattle.nodes.specs.laws.Pairs.{every-node}
 use Rattle.search.specs.laws.Runs.{Kept, whole-kept, same-name, whole-closed, Leaves, Concluded, whole-concluded}
 use Rattle.evaluation.specs.laws.Height.{longest, longest-is, longest-unique}
 use Rattle.search.specs.laws.Found.{found}

@@ -17,10 +17,11 @@ use Rattle.picking.specs.declared.spot.Spot.{Spot}
 use Rattle.search.specs.declared.Answer.{Answer}
 use Rattle.search.specs.declared.Outcome.{Outcome}
 use Rattle.search.specs.Answers.{verdictCode, refusalCode, outcomeCode}
-use Rattle.evaluation.specs.Problem.{Prob, problem}
+use Rattle.nodes.specs.Problem.{Prob, problem}
 use Rattle.evaluation.specs.Readers.{Chain}
-use Rattle.evaluation.specs.inner.Evaluation.{Fills}
-use Rattle.evaluation.specs.promises.Determined.{fill-determined, index-readers-determined}
+use Rattle.nodes.specs.inner.Nodes.{Fills}
+use Rattle.nodes.specs.promises.Determined.{fill-determined}
+use Rattle.evaluation.specs.promises.Determined.{index-readers-determined}
 use Rattle.search.specs.inner.Run.{Prepared}
 use Rattle.evaluation.specs.laws.Lists.{lists-unique}
 use Rattle.search.specs.Step.{Out, goes, blocked, Follows, Follows.inverse, Follows.consistent, Follows.nothing, Step, Step.none-left, Step.followed}

@@ -1,10 +1,10 @@
 -- `tapes::need` meets its contract.
 use mathlib.Core.Path.{sym, _∙_}
 use native.Mathlib.Nat.{not-suc-le-zero}
-use Rattle.evaluation.specs.Problem.{zeros}
+use Rattle.nodes.specs.Problem.{zeros}
 use Rattle.tapes.specs.Needed.{Needed.refuses, Needed.needs as needed}
-use Rattle.evaluation.specs.laws.Good.{good-of}
-use Rattle.evaluation.specs.laws.Pairs.{length-zeros}
+use Rattle.nodes.specs.laws.Good.{good-of}
+use Rattle.nodes.specs.laws.Pairs.{length-zeros}
 use Rattle.evaluation.specs.laws.Height.{longest-short}
 use borrow.Author.Needs.{needs}
 use Rattle.tapes.proofs.need.Statement.{statement}

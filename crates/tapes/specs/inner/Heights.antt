@@ -5,7 +5,7 @@ use Prim.Native.Nat.{ℕ, _<_}
 use lib.ListN.{length, getD}
 use Rattle.problem.specs.declared.Checked.the-variants.{Accepted}
 use Rattle.problem.specs.Refusals.{checked}
-use Rattle.evaluation.specs.Problem.{problem}
+use Rattle.nodes.specs.Problem.{problem}
 use Rattle.evaluation.specs.laws.Height.{Height}
 
 -- an accepted problem s, and the heights of its first i nodes in a list of 1,024 places

@@ -9,12 +9,12 @@ use Rattle.problem.specs.declared.Checked.the-variants.{Accepted}
 use Rattle.problem.specs.Refusals.{checked}
 use Rattle.search.specs.declared.Answer.{Answer}
 use Rattle.search.specs.Answers.{said}
-use Rattle.evaluation.specs.Problem.{problem}
+use Rattle.nodes.specs.Problem.{problem}
 use Rattle.search.specs.Run.{End, AllOne, Move, ClosedRoot, Whole.closed, Whole.searched}
 use Rattle.search.specs.Call.{Called, Called.refuses, Called.runs}
-use Rattle.evaluation.specs.Values.{Evaluated}
+use Rattle.nodes.specs.Values.{Evaluated}
 use Rattle.evaluation.specs.Height.{Longest}
-use Rattle.evaluation.specs.laws.Good.{good-of}
+use Rattle.nodes.specs.laws.Good.{good-of}
 use Rattle.search.specs.laws.Runs.{kept-start, same-text}
 use Rattle.search.specs.promises.Accepted.{accepted-start}
 use Rattle.tapes.specs.Steps.{stepsOf}

@@ -23,14 +23,14 @@ use Rattle.picking.specs.declared.spot.Three.{Three}
 use Rattle.picking.specs.declared.spot.Spot.{Spot}
 use Rattle.picking.specs.Spot.{at, positions, Slot, Fair}
 use Rattle.picking.specs.laws.Positions.{few-positions}
-use Rattle.evaluation.specs.Problem.{oneOf, three, Prob, problem, count, arg, Variable, evaluate, pairs, spotOf, spot}
+use Rattle.nodes.specs.Problem.{oneOf, three, Prob, problem, count, arg, Variable, evaluate, pairs, spotOf, spot}
 use Rattle.search.specs.Call.{refusals}
-use Rattle.evaluation.specs.Values.{VariablesAgree}
-use Rattle.evaluation.specs.inner.Good.{Good}
-use Rattle.evaluation.specs.laws.Good.{good-of}
+use Rattle.nodes.specs.Values.{VariablesAgree}
+use Rattle.nodes.specs.inner.Good.{Good}
+use Rattle.nodes.specs.laws.Good.{good-of}
 use Rattle.evaluation.specs.laws.Values.{evaluate-variable, held-evaluate}
-use Rattle.evaluation.specs.laws.Pairs.{pairs-own}
-use Rattle.evaluation.specs.laws.Spot.{spot-fair}
+use Rattle.nodes.specs.laws.Pairs.{pairs-own}
+use Rattle.nodes.specs.laws.Spot.{spot-fair}
 use Rattle.search.specs.promises.Accepted.{Accepts, accepted-start, start-accepted}
 use Rattle.walumpeh.specs.Offered.{Empty, Offered, plain}
 use Rattle.walumpeh.specs.laws.Rules.{operands-fields, one-operand, rule-of, low-law}

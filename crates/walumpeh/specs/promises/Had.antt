@@ -8,7 +8,7 @@ use Rattle.problem.specs.declared.Checked.the-variants.{Accepted}
 use Rattle.problem.specs.Layout.{nodeCount, nodeAt}
 use Rattle.picking.specs.declared.spot.Spot.{Spot}
 use Rattle.picking.specs.Spot.{positions}
-use Rattle.evaluation.specs.Problem.{problem, evaluate, spot}
+use Rattle.nodes.specs.Problem.{problem, evaluate, spot}
 use Rattle.search.specs.Call.{refusals}
 use Rattle.walumpeh.specs.Offered.{Offered, plain}
 use Rattle.walumpeh.specs.laws.Witness as witness

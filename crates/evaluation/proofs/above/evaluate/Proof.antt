@@ -1,7 +1,7 @@
 -- `evaluation::above::evaluate` meets its contract.
 use mathlib.Core.Path.{refl}
-use Rattle.evaluation.specs.Problem.{problem}
-use Rattle.evaluation.specs.inner.Readers.{Asked.whole}
+use Rattle.nodes.specs.Problem.{problem}
+use Rattle.evaluation.specs.inner.Evaluation.{Asked.whole}
 use Rattle.evaluation.specs.laws.Passing.{answered-whole}
 use borrow.Author.Needs.{needs}
 use Rattle.evaluation.proofs.above.evaluate.Statement.{statement}

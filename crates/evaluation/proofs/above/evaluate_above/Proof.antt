@@ -1,5 +1,5 @@
 -- `evaluation::above::evaluate_above` meets its contract.
-use Rattle.evaluation.specs.inner.Readers.{Asked.part}
+use Rattle.evaluation.specs.inner.Evaluation.{Asked.part}
 use Rattle.evaluation.specs.laws.Passing.{alone, due, answered-part}
 use borrow.Author.Needs.{needs}
 use Rattle.evaluation.proofs.above.evaluate_above.Statement.{statement}

@@ -4,7 +4,7 @@ use Prim.Native.Nat.{_-_}
 use native.Mathlib.Omega.{arith}
 use borrow.Author.Needs.{needs}
 use lib.ListN.{length, length-set}
-use Rattle.evaluation.specs.inner.Readers.{Asked}
+use Rattle.evaluation.specs.inner.Evaluation.{Asked}
 use Rattle.evaluation.specs.laws.Passing.{passed-few, passed-long, Going, going-start, going-marks, going-few, going-room, going-long, going-evaluable, going-more, going-end, asked-most}
 use Rattle.evaluation.proofs.pass.pass.Statement.{statement}
 use Rattle.evaluation.proofs.pass.pass.Tie as tie

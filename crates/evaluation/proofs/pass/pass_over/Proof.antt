@@ -1,6 +1,6 @@
 -- `evaluation::pass::pass_over` meets its contract.
 use native.Mathlib.Omega.{arith}
-use Rattle.evaluation.specs.Problem.{problem}
+use Rattle.nodes.specs.Problem.{problem}
 use Rattle.evaluation.specs.laws.Passing.{clear-in, asked-few}
 use borrow.Author.Needs.{needs}
 use Rattle.evaluation.proofs.pass.pass_over.Statement.{statement}

@@ -4,7 +4,7 @@ use Prim.Native.Nat.{_+_, _-_, _≤_}
 use native.Mathlib.Omega.{arith}
 use borrow.Author.Needs.{needs}
 use lib.ListN.{length}
-use Rattle.evaluation.specs.Problem.{problem}
+use Rattle.nodes.specs.Problem.{problem}
 use Rattle.evaluation.specs.inner.Readers.{Linking}
 use Rattle.evaluation.specs.laws.Linking.{linking-none, linking-all}
 use Rattle.evaluation.proofs.readers.index_readers.Statement.{statement}

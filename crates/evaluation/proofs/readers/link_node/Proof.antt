@@ -1,7 +1,7 @@
 -- `evaluation::readers::link_node` meets its contract.
 use native.Mathlib.Omega.{arith}
-use Rattle.evaluation.specs.laws.Good.{good-of}
-use Rattle.evaluation.specs.laws.Readings.{node-there}
+use Rattle.nodes.specs.laws.Good.{good-of}
+use Rattle.nodes.specs.laws.Readings.{node-there}
 use Rattle.evaluation.specs.laws.Linking.{linkable-2, linkable-1, linkable-0, linked-node, linked-long}
 use borrow.Author.Needs.{needs}
 use Rattle.evaluation.proofs.readers.link_node.Statement.{statement}

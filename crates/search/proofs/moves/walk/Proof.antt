@@ -1,7 +1,7 @@
 -- `search::moves::walk` meets its contract.
 use native.Mathlib.Omega.{arith}
 use borrow.Author.Needs.{needs}
-use Rattle.evaluation.specs.laws.Readings.{node-there}
+use Rattle.nodes.specs.laws.Readings.{node-there}
 use Rattle.search.proofs.Places.{On, on-start, spotted, stepping-in, walk-arrives, walk-short, walk-stuck, walk-below, walk-on}
 use Rattle.search.proofs.moves.walk.Statement.{statement}
 use Rattle.search.proofs.moves.walk.Tie as tie

@@ -3,8 +3,8 @@ use mathlib.Core.Path.{_≡_, sym, _∙_}
 use Prim.Native.Nat.{ℕ, _≤_, _<_, _-_}
 use native.Mathlib.Omega.{arith}
 use borrow.Author.Count.{below-more}
-use Rattle.evaluation.specs.Problem.{problem, pairHi}
-use Rattle.evaluation.specs.laws.Readings.{root-inside, root-hi}
+use Rattle.nodes.specs.Problem.{problem, pairHi}
+use Rattle.nodes.specs.laws.Readings.{root-inside, root-hi}
 use borrow.Author.Needs.{needs}
 use Rattle.search.proofs.roots.closed_root.Statement.{statement}
 use Rattle.search.proofs.roots.closed_root.Tie as tie

@@ -4,7 +4,7 @@ use mathlib.Core.Logic.{⊎-elim}
 use Prim.Native.Nat.{_≤_, _-_}
 use native.Mathlib.Omega.{arith}
 use borrow.Author.Needs.{needs}
-use Rattle.evaluation.specs.Problem.{problem}
+use Rattle.nodes.specs.Problem.{problem}
 use Rattle.search.specs.Run.{Unsatisfied}
 use Rattle.evaluation.specs.inner.Lists.{Count}
 use Rattle.search.proofs.RootPlaces.{root-place, root-value}

@@ -3,8 +3,8 @@ use mathlib.Core.Path.{_≡_}
 use Prim.Native.Nat.{_≤_, _<_, _-_}
 use native.Mathlib.Omega.{arith}
 use borrow.Author.Needs.{needs}
-use Rattle.evaluation.specs.Problem.{problem}
-use Rattle.evaluation.specs.laws.Good.{good-of}
+use Rattle.nodes.specs.Problem.{problem}
+use Rattle.nodes.specs.laws.Good.{good-of}
 use Rattle.tapes.specs.inner.Heights.{Heights}
 use Rattle.tapes.proofs.Links.{heights-more, heights-all}
 use Rattle.tapes.proofs.heights.fill_heights.Statement.{statement}

@@ -1,5 +1,5 @@
 -- `tapes::heights::height_at` meets its contract.
-use Rattle.evaluation.specs.laws.Readings.{node-there}
+use Rattle.nodes.specs.laws.Readings.{node-there}
 use Rattle.tapes.proofs.Links.{operand-there, height-made}
 use borrow.Author.Needs.{needs}
 use Rattle.tapes.proofs.heights.height_at.Statement.{statement}

@@ -3,9 +3,9 @@ use mathlib.Core.Path.{_≡_}
 use Prim.Native.Nat.{_≤_, _-_}
 use native.Mathlib.Omega.{arith}
 use borrow.Author.Needs.{needs}
-use Rattle.evaluation.specs.Problem.{problem}
-use Rattle.evaluation.specs.laws.Good.{good-of}
-use Rattle.evaluation.specs.laws.Readings.{root-inside}
+use Rattle.nodes.specs.Problem.{problem}
+use Rattle.nodes.specs.laws.Good.{good-of}
+use Rattle.nodes.specs.laws.Readings.{root-inside}
 use Rattle.tapes.proofs.Links.{tallest, tallest-none, tallest-more, heights-longest}
 use Rattle.tapes.proofs.heights.longest_chain.Statement.{statement}
 use Rattle.tapes.proofs.heights.longest_chain.Tie as tie

@@ -1,0 +1,3 @@
+-- What is promised, as theorems over all that the contracts allow.
+pub mod Agree
+pub mod Determined
