@@ -1,8 +1,8 @@
 -- The judgement: refusals in the request's order, each tried over the whole text before the next; then the roots.
 use mathlib.Core.Bool.{Bool, true, cond, not, _&&_, _||_}
 use mathlib.Core.List.{List, [], _∷_, _++_, map}
-use Prim.Native.Nat.{ℕ, zero, suc, _^_}
-use lib.Dec.{leb, eqb}
+use Prim.Native.Nat.{ℕ, zero, suc}
+use lib.Dec.{eqb}
 use lib.ListN.{length, getD, set}
 use Rattle.problem.specs.declared.Checked.{Checked}
 use Rattle.problem.specs.declared.Checked.the-variants.{Accepted, Refused}
@@ -12,8 +12,8 @@ use Rattle.nodes.specs.Problem.{problem, zeros, evaluate}
 use Rattle.models.specs.declared.Judged.{Judged}
 use Rattle.models.specs.declared.Judged.the-variants.{Yes, No}
 use Rattle.models.specs.declared.Judged.the-variants as said
-use Rattle.models.specs.Names.{names, position, isAgain, some}
-use Rattle.models.specs.Entries.{Entry, noEntry, isModel, entries}
+use Rattle.entries.specs.Names.{names, position, isAgain, some}
+use Rattle.entries.specs.Entries.{Entry, noEntry, misfits, isModel, entries}
 
 -- a refusal with its number and place where a test is given; Yes stands for nothing said against the model so far
 unfoldable pub refuse : ℕ → ℕ → Bool → Judged
@@ -50,10 +50,6 @@ listWrong vs ns = not (eqb (length ns) (length vs)) || some (isAgain ns) (length
 
 abbrev pub namesOf : List Entry → List (List ℕ)
 namesOf es = map (λ (e : Entry). e .name) es
-
--- 34 "the sort or the value's width differs from the variable's, or a decimal is too large for its width"
-unfoldable pub misfits : ℕ → Entry → Bool
-misfits w e = not (eqb (e .sort) w) || not (eqb (e .width) w) || leb (2 ^ e .width) (e .value)
 
 -- of a problem s, the names ns of its variables, and the entries es
 module _ (s : List ℕ) (ns : List (List ℕ)) (es : List Entry) where

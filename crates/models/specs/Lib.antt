@@ -1,8 +1,4 @@
 -- The definitions to be believed, in this order; then by folder what is inner, what is promised, and laws.
-pub mod Pieces
-pub mod Tokens
-pub mod Names
-pub mod Entries
 pub mod Judgement
 pub mod Answers
 pub mod inner

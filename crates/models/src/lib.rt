@@ -3,10 +3,7 @@
 ghost use mathlib.Core.Path.{_≡_};
 ghost use Rattle.models.specs.Judgement.{judged};
 
-mod entries;
 mod judging;
-mod names;
-mod tokens;
 
 use judging::judge_accepted;
 use problem::Checked;

@@ -14,11 +14,12 @@ use Rattle.texts.specs.Runs.{equal}
 use Rattle.texts.specs.laws.Runs.{equal-same, equal-self}
 use Rattle.texts.specs.Numbers.{numbered}
 use Rattle.nodes.specs.Problem.{zeros}
-use Rattle.models.specs.Names.{position, isAgain, some}
-use Rattle.models.specs.Entries.{Entry, noEntry}
+use Rattle.entries.specs.Names.{position, isAgain, some}
+use Rattle.entries.specs.Entries.{Entry, noEntry}
 use Rattle.models.specs.Judgement.{namesOf}
-use Rattle.models.specs.inner.Judging.{marksUp, wordsUp, small}
-use Rattle.models.specs.laws.Names.{some-each}
+use Rattle.entries.specs.inner.Places.{small}
+use Rattle.models.specs.inner.Judging.{marksUp, wordsUp}
+use Rattle.entries.specs.laws.Names.{some-each}
 
 -- ---- where a name stands
 

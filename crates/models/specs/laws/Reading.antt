@@ -13,13 +13,14 @@ use Rattle.problem.specs.Layout.{widthAt}
 use Rattle.nodes.specs.Problem.{zeros}
 use Rattle.models.specs.declared.Judged.{Judged}
 use Rattle.models.specs.declared.Judged.the-variants.{Yes, Refused}
-use Rattle.models.specs.Tokens.{tokens}
-use Rattle.models.specs.Names.{names, position, isAgain}
-use Rattle.models.specs.Entries.{Entry, noEntry, entrySize, entryOf, entriesIn, entries}
-use Rattle.models.specs.Judgement.{refuse, _next_, firstSaid, variables, namesOf, misfits, unknownAt, againAt, misfitAt}
-use Rattle.models.specs.inner.Judging.{After, Begins, small, marksUp, wordsUp, Reading, entriesSaid, Read}
-use Rattle.models.specs.laws.Names.{rest-first}
-use Rattle.models.specs.laws.Entries.{entries-more, entries-end, entry-moves}
+use Rattle.entries.specs.Tokens.{tokens}
+use Rattle.entries.specs.Names.{names, position, isAgain}
+use Rattle.entries.specs.Entries.{Entry, noEntry, entrySize, entryOf, entriesIn, entries, misfits}
+use Rattle.models.specs.Judgement.{refuse, _next_, firstSaid, variables, namesOf, unknownAt, againAt, misfitAt}
+use Rattle.entries.specs.inner.Places.{After, Begins, small}
+use Rattle.models.specs.inner.Judging.{marksUp, wordsUp, Reading, entriesSaid, Read}
+use Rattle.entries.specs.laws.Names.{rest-first}
+use Rattle.entries.specs.laws.Entries.{entries-more, entries-end, entry-moves}
 use Rattle.models.specs.laws.First.{refused-not, next-stays, next-yes, refuse-given, refuse-not, not-refused, said-none, said-next, said-more, said-at, said-each}
 use Rattle.models.specs.laws.Positions.{position-most, marks-again}
 

@@ -26,13 +26,14 @@ use Rattle.nodes.specs.Values.{VariablesAgree}
 use Rattle.evaluation.specs.inner.Evaluation.{Assigned}
 use Rattle.models.specs.declared.Judged.{Judged}
 use Rattle.models.specs.declared.Judged.the-variants.{Yes, Refused}
-use Rattle.models.specs.Names.{names, position, isAgain, some}
-use Rattle.models.specs.Entries.{Entry, noEntry, isModel, entries}
-use Rattle.models.specs.Judgement.{ofProblem, listWrong, judged, refuse, _next_, firstSaid, variables, namesOf, misfits, unknownAt, againAt, misfitAt, absentAt, assignedUp, assigned, contradictedAt, zeroAt, judgedEntries, judgedText}
-use Rattle.models.specs.inner.Judging.{Kept, Listed, Named, Prepared, Placing, Sound, marksUp, wordsUp, placedUp, entriesSaid, Read, unmarkedAt, valuesSaid, isYes}
+use Rattle.entries.specs.Names.{names, position, isAgain, some}
+use Rattle.entries.specs.Entries.{Entry, noEntry, isModel, entries, misfits}
+use Rattle.models.specs.Judgement.{ofProblem, listWrong, judged, refuse, _next_, firstSaid, variables, namesOf, unknownAt, againAt, misfitAt, absentAt, assignedUp, assigned, contradictedAt, zeroAt, judgedEntries, judgedText}
+use Rattle.entries.specs.inner.Places.{Listed, Named}
+use Rattle.models.specs.inner.Judging.{Kept, Prepared, Placing, Sound, marksUp, wordsUp, placedUp, entriesSaid, Read, unmarkedAt, valuesSaid, isYes}
 use Rattle.models.specs.laws.First.{yes-is, answered, passed, refuse-given, refuse-not, next-stays, next-yes, next-assoc, next-left, next-right, not-refused, said-each, said-same}
 use Rattle.models.specs.laws.Positions.{position-most, names-length, marks-absent, marks-length, words-length, words-for}
-use Rattle.models.specs.laws.Numbers.{small-is-it}
+use Rattle.entries.specs.laws.Numbers.{small-is-it}
 use Rattle.models.specs.laws.Variables.{few-names, variable-count, variable-at, variable-below}
 use Rattle.models.specs.laws.Reading.{known-each}
 

@@ -20,8 +20,8 @@ use Rattle.nodes.specs.laws.Good.{good-of}
 use Rattle.evaluation.specs.laws.Values.{evalUp-lt}
 use Rattle.models.specs.declared.Judged.{Judged}
 use Rattle.models.specs.declared.Judged.the-variants.{Yes, No, Refused}
-use Rattle.models.specs.Names.{names}
-use Rattle.models.specs.Entries.{entries}
+use Rattle.entries.specs.Names.{names}
+use Rattle.entries.specs.Entries.{entries}
 use Rattle.models.specs.Judgement.{refuse, _next_, firstSaid, ofProblem, unknownAt, againAt, misfitAt, absentAt, assigned, contradictedAt, zeroAt, judged}
 use Rattle.models.specs.Answers.{rootOf}
 use Rattle.models.specs.inner.Judging.{isYes}

@@ -14,11 +14,11 @@ use Rattle.problem.specs.Refusals.{bitOutside}
 use Rattle.nodes.specs.Problem.{problem, zeros, three, spotOf, valueOf, evalUp, evaluate}
 use Rattle.models.specs.declared.Judged.{Judged}
 use Rattle.models.specs.declared.Judged.the-variants.{Yes, No, Refused}
-use Rattle.models.specs.Pieces.{chop}
-use Rattle.models.specs.Tokens.{pieceLength, isGap, tokenAt, tokens}
-use Rattle.models.specs.Names.{isBarred, inside, lineLength, names, position, isAgain, some, isSimple, isQuoted, isName}
-use Rattle.models.specs.Entries.{isNumeral, upTo64, widthSaid, baseOf, literalWidth, isDecimal, fits, matches, heading, literal, decimal, entrySize, noEntry, valueWidth, valueSaid, entryOf, body, stepOver, entriesIn, leftIn, isModel, entries}
-use Rattle.models.specs.Judgement.{refuse, _next_, firstSaid, variablesBelow, variables, listWrong, unknownAt, againAt, misfits, misfitAt, absentAt, assignedUp, assigned, contradictedAt, zeroAt, judgedEntries, judgedText}
+use Rattle.entries.specs.Pieces.{chop}
+use Rattle.entries.specs.Tokens.{pieceLength, isGap, tokenAt, tokens}
+use Rattle.entries.specs.Names.{isBarred, inside, lineLength, names, position, isAgain, some, isSimple, isQuoted, isName}
+use Rattle.entries.specs.Entries.{isNumeral, upTo64, widthSaid, baseOf, literalWidth, isDecimal, fits, matches, heading, literal, decimal, entrySize, noEntry, valueWidth, valueSaid, entryOf, body, stepOver, entriesIn, leftIn, isModel, entries, misfits}
+use Rattle.models.specs.Judgement.{refuse, _next_, firstSaid, variablesBelow, variables, listWrong, unknownAt, againAt, misfitAt, absentAt, assignedUp, assigned, contradictedAt, zeroAt, judgedEntries, judgedText}
 
 -- a number below 256 in so many bytes more than one
 abbrev small : ℕ → ℕ → List ℕ

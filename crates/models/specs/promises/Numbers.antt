@@ -17,8 +17,8 @@ use Rattle.problem.specs.Refusals.{checked, numberOf as ownNumber, placeOf as o
 use Rattle.problem.specs.promises.Numbers.{numbered}
 use Rattle.models.specs.declared.Judged.{Judged}
 use Rattle.models.specs.declared.Judged.the-variants.{Yes, No, Refused}
-use Rattle.models.specs.Names.{names}
-use Rattle.models.specs.Entries.{entries}
+use Rattle.entries.specs.Names.{names}
+use Rattle.entries.specs.Entries.{entries}
 use Rattle.models.specs.Judgement.{refuse, firstSaid, ofProblem, variables, listWrong, unknownAt, againAt, misfitAt, absentAt, contradictedAt, zeroAt, judged}
 use Rattle.models.specs.Answers.{numberOf, placeOf}
 use Rattle.models.specs.inner.Judging.{isYes}

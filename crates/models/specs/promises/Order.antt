@@ -14,8 +14,8 @@ use Rattle.problem.specs.Refusals.{checked}
 use Rattle.nodes.specs.Problem.{problem, evaluate}
 use Rattle.models.specs.declared.Judged.{Judged}
 use Rattle.models.specs.declared.Judged.the-variants.{Yes, No, Refused}
-use Rattle.models.specs.Names.{names}
-use Rattle.models.specs.Entries.{isModel, entries}
+use Rattle.entries.specs.Names.{names}
+use Rattle.entries.specs.Entries.{isModel, entries}
 use Rattle.models.specs.Judgement.{refuse, _next_, firstSaid, ofProblem, variables, listWrong, unknownAt, againAt, misfitAt, absentAt, assigned, contradictedAt, zeroAt, judgedEntries, judgedText, judged}
 use Rattle.models.specs.inner.Judging.{isYes}
 use Rattle.models.specs.laws.First.{yes-is, next-stays, next-yes, next-assoc, said-at, said-each}

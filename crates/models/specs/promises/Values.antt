@@ -13,9 +13,9 @@ use lib.Seq.{getD-append-seam, getD-set-same, getD-set-other}
 use borrow.Author.Tests.{eqb-true, eqb-false, leb-false, ltb-false, not-false}
 use Rattle.problem.specs.Layout.{nodeCount, nodeAt, widthAt}
 use Rattle.problem.specs.laws.Facts.{accepted-facts}
-use Rattle.models.specs.Names.{names, position, isAgain, some}
-use Rattle.models.specs.Entries.{Entry, noEntry, entries}
-use Rattle.models.specs.Judgement.{variablesBelow, variables, listWrong, namesOf, misfits, againAt, misfitAt, absentAt, assignedUp, assigned}
+use Rattle.entries.specs.Names.{names, position, isAgain, some}
+use Rattle.entries.specs.Entries.{Entry, noEntry, entries, misfits}
+use Rattle.models.specs.Judgement.{variablesBelow, variables, listWrong, namesOf, againAt, misfitAt, absentAt, assignedUp, assigned}
 use Rattle.models.specs.laws.First.{not-refused, said-each}
 use Rattle.models.specs.laws.Positions.{position-most, position-found, position-first, position-own, names-length, names-at}
 use Rattle.models.specs.laws.Variables.{below}

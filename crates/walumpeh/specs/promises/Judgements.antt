@@ -12,7 +12,7 @@ use Rattle.problem.specs.laws.Facts.{accepted-facts}
 use Rattle.search.specs.Answers.{refusalCode}
 use Rattle.models.specs.Judgement.{judged}
 use Rattle.models.specs.Answers.{numberOf, placeOf}
-use Rattle.models.specs.laws.Short.{entries-few}
+use Rattle.entries.specs.laws.Short.{entries-few}
 use Rattle.models.specs.promises.Numbers.{judged-numbered}
 use Rattle.walumpeh.specs.Codes.{lastPlace, judgedCode, tooShort}
 use Rattle.walumpeh.specs.Judgements.{ModelCode, ModelCode.no-room, ModelCode.told}

@@ -8,7 +8,7 @@ use denote.Ref.{now}
 use Rattle.problem.specs.laws.Facts.{accepted-facts}
 use Rattle.models.specs.inner.Judging.{Reading}
 use Rattle.models.specs.laws.Variables.{few-names, zeros-room, variable-at}
-use Rattle.models.specs.laws.Entries.{entry-moves, entry-name, entry-unfit, entry-word}
+use Rattle.entries.specs.laws.Entries.{entry-moves, entry-name, entry-unfit, entry-word}
 use Rattle.models.specs.laws.Reading.{reading-start, reading-end, reading-unknown, reading-more}
 use Rattle.models.proofs.judging.read_entries.Statement.{statement}
 use Rattle.models.proofs.judging.read_entries.Tie as tie
