@@ -4,7 +4,7 @@ ghost use mathlib.Core.List.{[]};
 ghost use Prim.Native.Nat.{_+_, _≤_, _<_};
 ghost use lib.ListN.{length, getD, drop};
 ghost use Rattle.lines.specs.Lines.{tokens, token};
-ghost use Rattle.lines.specs.inner.Places.{tokenLength, After, MarkedAt, Marked, Stored};
+ghost use Rattle.lines.specs.inner.Places.{tokenLength, past, After, MarkedAt, Marked, Stored};
 use texts::Class;
 use texts::byte_at;
 use texts::run_end;
@@ -20,6 +20,13 @@ fn token_end(line: &[u8], from: usize) -> usize
     run_end(line, from, Class::Solid)
 }
 
+// The place after a token between two places of a line of so many bytes: the line's end where the token is empty, for then there is none.
+fn past_token(from: usize, end: usize, size: usize) -> usize
+    ensures { λ r. ⌜ r ≡ past from end size ⌝ }
+{
+    if end == from { size } else { end }
+}
+
 // The first token from a place on; empty where there is none.
 fn first_token(line: &[u8], at: usize) -> &[u8]
     requires { ⌜ at ≤ length (now line) ⌝ }
@@ -30,17 +37,14 @@ fn first_token(line: &[u8], at: usize) -> &[u8]
     &line[from..end]
 }
 
-// The place after that token; the line's end where there is none.
+// The place after that token.
 fn after_token(line: &[u8], at: usize) -> usize
     requires { ⌜ at ≤ length (now line) ⌝ }
     ensures { λ r. ⌜ After (now (line .entry)) at r ⌝ }
 {
     let from = run_end(line, at, Class::Blank);
     let end = token_end(line, from);
-    if end == from {
-        return line.len();
-    }
-    end
+    past_token(from, end, line.len())
 }
 
 // Where token k begins and ends, stored at places 2k and 2k + 1, from a place on that the tokens before it leave; answers the place after it.
@@ -52,10 +56,7 @@ fn mark_token(line: &[u8], at: usize, marks: &mut [usize], k: usize) -> usize
     let end = token_end(line, from);
     marks[2 * k] = from;
     marks[2 * k + 1] = end;
-    if end == from {
-        return line.len();
-    }
-    end
+    past_token(from, end, line.len())
 }
 
 // Where the first 12 tokens of a line begin and end: no line of the format has more. One that is missing is empty.

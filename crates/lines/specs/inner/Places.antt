@@ -13,7 +13,11 @@ use Rattle.lines.specs.Lines.{token, tokens}
 unfoldable pub tokenLength : List ℕ → ℕ
 tokenLength s = cond (eqb (getD s 0 0) 59) 0 (runLength (isIn Solid) s)
 
--- where the first token from a place on begins and ends, and the place after it: the line's end where there is none
+-- the place after a token between two places of a line of so many bytes: the line's end where the token is empty, for then there is none
+unfoldable pub past : ℕ → ℕ → ℕ → ℕ
+past from end size = cond (eqb end from) size end
+
+-- where the first token from a place on begins and ends, and the place after it
 unfoldable pub begins : List ℕ → ℕ → ℕ
 begins l at = at + runLength (isIn Blank) (drop at l)
 
@@ -21,7 +25,7 @@ unfoldable pub ends : List ℕ → ℕ → ℕ
 ends l at = begins l at + tokenLength (drop (begins l at) l)
 
 unfoldable pub beyond : List ℕ → ℕ → ℕ
-beyond l at = cond (eqb (ends l at) (begins l at)) (length l) (ends l at)
+beyond l at = past (begins l at) (ends l at) (length l)
 
 -- n tokens from place `at` on stored, the first of them as token k
 unfoldable pub stored : List ℕ → ℕ → ℕ → ℕ → List ℕ → List ℕ

@@ -9,8 +9,8 @@ use lib.Dec.{eqb, eqb·suc-zero}
 use lib.ListN.{length, getD, take, drop, length-drop}
 use lib.Seq.{drop-drop, drop-length, getD-drop}
 use native.Mathlib.Nat.{add-zero}
-use Rattle.lines.specs.inner.Places.{tokenLength, After}
-use borrow.Author.Tests.{eq-eqb, ne-eqb, eqb-true}
+use Rattle.lines.specs.inner.Places.{tokenLength, past, After}
+use borrow.Author.Tests.{eq-eqb, ne-eqb, eqb-true, eqb-false}
 use Rattle.texts.specs.declared.runs.Class.the-variants.{Blank, Solid}
 use Rattle.texts.specs.laws.Runs.{later, split-first, run-past, run-inside, run-short}
 use Rattle.texts.specs.Runs.{isBlank, isIn, runLength, split}
@@ -156,17 +156,25 @@ module _ (l : List ℕ) (at from end : ℕ) (f : from ≡ at + runLength (isIn B
   pub token-head : take (end - from) (drop from l) ≡ getD (tokens (drop at l)) 0 []
   token-head = let h : end - from ≡ tokenLength (drop from l) = omega arith in rw h (sym (head-of first-at))
 
-  pub token-tail : (end ≡ from → ⊥) → tokens (drop end l) ≡ drop 1 (tokens (drop at l))
+  token-tail : (end ≡ from → ⊥) → tokens (drop end l) ≡ drop 1 (tokens (drop at l))
   token-tail h =
       rw (tail-of first-at (omega arith)) (ap tokens (rw g (sym (drop-drop (tokenLength (drop from l)) from l))))
 
-  pub token-gone : end ≡ from → tokens (drop (length l) l) ≡ drop 1 (tokens (drop at l))
+  token-gone : end ≡ from → tokens (drop (length l) l) ≡ drop 1 (tokens (drop at l))
   token-gone h = rw (drop-length l) (tokens-none ∙ sym (gone-of first-at (omega arith)))
 
   pub token-places : at ≤ length l → (from ≤ end) × (end ≤ length l)
   token-places h =
       let i = run-inside (isIn Blank) l at from h f in
       (omega arith, omega (arith, token-inside (drop from l), length-drop from l, i))
+
+  pub token-after : at ≤ length l → After l at (past from end (length l))
+  unfolding past
+  token-after h = by (eqb end from) refl
+    where
+      by : (b : Bool) → eqb end from ≡ b → After l at (cond b (length l) end)
+      by true e = record { inside = omega arith; left = token-gone (eqb-true end from e) }
+      by false e = record { inside = token-places h .1; left = token-tail (eqb-false end from e) }
 
 -- ---- token k
 

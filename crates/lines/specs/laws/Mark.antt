@@ -8,30 +8,40 @@ use native.Mathlib.Nat.{add-zero}
 use lib.Dec.{eqb}
 use lib.ListN.{length, getD, take, drop, set, length-set}
 use lib.Seq.{getD-set-same, getD-set-other, getD-drop}
-use borrow.Author.Tests.{eqb-true, eqb-false, eq-eqb, ne-eqb}
+use borrow.Author.Tests.{eqb-true, eqb-false}
 use Rattle.lines.specs.Lines.{Token, token, tokens}
 use Rattle.texts.specs.declared.runs.Class.the-variants.{Blank}
 use Rattle.texts.specs.Runs.{isIn, runLength}
-use Rattle.lines.specs.inner.Places.{tokenLength, begins, ends, beyond, stored, MarkedAt, Marked}
+use Rattle.lines.specs.inner.Places.{tokenLength, past, begins, ends, beyond, stored, MarkedAt, Marked}
+use Rattle.lines.specs.laws.Line.{token-head, token-places, token-after}
 
 -- ---- the places of one token
 
 module _ (l : List ℕ) (at from end : ℕ) (f : from ≡ at + runLength (isIn Blank) (drop at l)) (g : end ≡ from + tokenLength (drop from l)) where
-  pub begins-there : from ≡ begins l at
+  begins-there : from ≡ begins l at
   unfolding begins
   begins-there = f
 
-  pub ends-there : end ≡ ends l at
+  ends-there : end ≡ ends l at
   unfolding ends begins
   ends-there = g ∙ rw f
 
-  pub beyond-gone : end ≡ from → length l ≡ beyond l at
+  pub marked-there : at ≤ length l → (k : ℕ) (marks : List ℕ) → MarkedAt l at k marks (set (set marks (2 * k) from) (2 * k + 1) end) (past from end (length l))
   unfolding beyond
-  beyond-gone h = rw (← begins-there, ← ends-there, eq-eqb end from h)
-
-  pub beyond-some : (end ≡ from → ⊥) → end ≡ beyond l at
-  unfolding beyond
-  beyond-some h = rw (← begins-there, ← ends-there, ne-eqb end from h)
+  marked-there h k marks =
+      let p = token-places l at from end f g h in
+      record {
+        from = from;
+        end = end;
+        from-is = begins-there;
+        end-is = ends-there;
+        r-is = rw (← begins-there, ← ends-there);
+        stored-is = refl;
+        ordered = p .0;
+        inside = p .1;
+        told = token-head l at from end f g;
+        after = token-after l at from end f g h;
+      }
 
 -- ---- all of them
 
