@@ -1,7 +1,7 @@
 // Boxes and sets of words, and the pick from one. A contract here settles which box is made, or which value is picked; how a set
 // is cut into boxes is for those who make it.
 ghost use mathlib.Core.Path.{_≡_};
-ghost use Prim.Native.Nat.{ℕ, _+_, _-_, _*_, _^_, _≤_, _<_};
+ghost use Prim.Native.Nat.{ℕ, _+_, _*_, _^_, _≤_, _<_};
 ghost use Rattle.words.specs.Agree.{Within};
 ghost use Rattle.words.specs.Pick.{FirstFrom, Picked};
 ghost use Rattle.boxes.specs.inner.Boxes.{In, Fine, span, word, lowAre, shiftedTo, mirrored, Bounded, endAt, met, Chosen};

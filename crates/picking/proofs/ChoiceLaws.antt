@@ -8,37 +8,18 @@ use native.Mathlib.Omega.{arith}
 use Rattle.words.specs.Agree.{Agrees}
 use Rattle.words.specs.inner.Decides.{Decides}
 use Rattle.words.specs.laws.Decides.{decides-yes, decides-no, decides-and}
-use Rattle.operators.specs.Meaning.{choose}
 use Rattle.picking.specs.declared.spot.Three.{Three}
 use Rattle.picking.specs.Spot.{at, put}
 use Rattle.picking.specs.laws.Positions.{at-put-same, at-put-other}
+use Rattle.picking.specs.laws.If.{chosen, chosen-at, branch-low, branch-few}
 use Rattle.boxes.specs.declared.Set.{Set}
 use Rattle.boxes.specs.inner.Boxes.{Solves, Every}
 use Rattle.picking.specs.inner.Asks.{branchOf, Had, HadIf}
 use Rattle.boxes.specs.laws.Solves.{solves-by, solves-all, same-by}
 
-abbrev pub chosen : Three → ℕ
-chosen q = choose (q .a) (q .b) (q .c)
-
--- what `if` gives stands at the branch that is taken
-pub chosen-at : (q : Three) → chosen q ≡ at q (branchOf (q .a))
-chosen-at q = go (q .a)
-  where
-    go : (x : ℕ) → choose x (q .b) (q .c) ≡ at q (branchOf x)
-    go zero = refl
-    go (suc x) = refl
-
 pub branch-is : (x : ℕ) → (x ≡ 0 → ⊥) → 1 ≡ branchOf x
 branch-is zero f = absurd (f refl)
 branch-is (suc x) f = refl
-
-pub branch-low : (x : ℕ) → 1 ≤ branchOf x
-branch-low zero = omega arith
-branch-low (suc x) = omega arith
-
-pub branch-few : (x : ℕ) → branchOf x < 3
-branch-few zero = omega arith
-branch-few (suc x) = omega arith
 
 -- ---- a branch with v in it: v where it is taken, else the other branch
 branch-at : (x : Three) (i v j : ℕ) → 1 ≤ i → i < 3 → branchOf (x .a) ≡ j → chosen (put x i v) ≡ at (put x i v) j

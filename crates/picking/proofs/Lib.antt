@@ -4,7 +4,6 @@ pub mod BitwiseLaws
 pub mod ChoiceLaws
 pub mod ComparisonLaws
 pub mod DivisionLaws
-pub mod EssentialLaws
 pub mod IfLaws
 pub mod JoiningLaws
 pub mod KindLaws

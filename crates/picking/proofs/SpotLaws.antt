@@ -12,7 +12,7 @@ use Rattle.words.specs.laws.Agree.{agrees-lt}
 use Rattle.words.specs.Pick.{Picked}
 use Rattle.words.specs.laws.Pick.{picked-same}
 use Rattle.operators.specs.declared.table.Rule.the-variants.{Equal}
-use Rattle.operators.specs.Table.{kindOf, row, shapeOf, RuleMet}
+use Rattle.operators.specs.Table.{kindOf, row, shapeOf}
 use Rattle.operators.specs.laws.Table.{evenly, even-widths}
 use Rattle.operators.specs.laws.Meaning.{even-two}
 use Rattle.operators.specs.Meaning.{meaning}
@@ -21,8 +21,9 @@ use Rattle.fixed.specs.inner.Pairs.{Ternary}
 use Rattle.picking.specs.declared.spot.Three.{Three}
 use Rattle.picking.specs.declared.spot.Spot.{Spot}
 use Rattle.boxes.specs.declared.Set.{Set}
-use Rattle.picking.specs.Spot.{at, put, positions, value, heldToPairs, Admitted, Reaches, Slot, Fair, Asked}
-use Rattle.picking.specs.laws.Positions.{at-put-same, value-used}
+use Rattle.picking.specs.Spot.{at, put, positions, value, heldToPairs, Admitted, Reaches, Slot, Asked}
+use Rattle.picking.specs.laws.Positions.{at-put-same, value-used, two-of, two-by-two, other-of}
+use Rattle.picking.specs.laws.Fair.{slot-lt, rule-at, count-at, slot-at, place}
 use Rattle.boxes.specs.inner.Boxes.{Solves, Chosen, Every, SomeOf, Some, SomeAgreeing}
 use Rattle.picking.specs.inner.Asks.{Short, joint, sideOf, Joined, Meets, Wanted}
 use Rattle.picking.proofs.ArithmeticLaws.{sum-comm}
@@ -39,42 +40,14 @@ other-rest x zero f = absurd (f refl)
 other-rest x (suc zero) f = refl
 other-rest x (suc (suc i)) f = let e : 1 - suc (suc i) ≡ 0 = omega arith in rw e
 
--- what holds of a and of b holds of any of two positions
-two-of : (P : ℕ → Type 0) (i : ℕ) → i < 2 → P 0 → P 1 → P i
-two-of P zero h a b = a
-two-of P (suc zero) h a b = b
-two-of P (suc (suc i)) h a b = absurd (omega arith)
-
-pub two-by-two : (P : ℕ → ℕ → Type 0) (i j : ℕ) → i < 2 → j < 2 → P 0 0 → P 0 1 → P 1 0 → P 1 1 → P i j
-two-by-two P i j h l a b c d = two-of (λ i. P i j) i h (two-of (P 0) j l a b) (two-of (P 1) j l c d)
-
-pub other-of : (i j : ℕ) → i < 2 → j < 2 → (j ≡ i → ⊥) → j ≡ 1 - i
-other-of i j h l f = omega arith
-
 joint-at : (i v s : ℕ) → i < 2 → at (joint i v s) (1 - i) ≡ s
 joint-at i v s h = two-of (λ i. at (joint i v s) (1 - i) ≡ s) i h refl refl
 
 -- ---- what an arm knows of a spot of its kind
-pub slot-lt : {w lo hi v : ℕ} → Slot w lo hi v → v < 2 ^ w
-slot-lt {w} s = agrees-lt w (s .under) (s .agrees)
-
 pub wide-at : {S : Spot} {i t : ℕ} → Asked S i t → at (S .widths) i ≤ 64
 wide-at {S} {i} A = A .fair .slots i (A .position) .wide
 
-module _ {S : Spot} {m : ℕ} (F : Fair S) (key : S .kind ≡ m) where
-  pub rule-at : RuleMet (shapeOf m .rule) (S .width) (S .widths .a) (S .widths .b) (S .widths .c) (S .low)
-  rule-at = rw key at (F .rule)
-
-  pub count-at : positions S ≡ shapeOf m .operands
-  count-at = ap (λ (n : ℕ). shapeOf n .operands) key
-
-  pub slot-at : (j : ℕ) → j < shapeOf m .operands → Slot (at (S .widths) j) (at (S .los) j) (at (S .his) j) (at (S .current) j)
-  slot-at j h = F .slots j (rw count-at h)
-
 module _ {S : Spot} {i t m : ℕ} (A : Asked S i t) (key : S .kind ≡ m) where
-  pub place : i < shapeOf m .operands
-  place = rw (count-at (A .fair) key) at (A .position)
-
   -- the other operand's current value
   other-lt : {y : ℕ} → 1 < shapeOf m .operands → y ≡ at (S .current) (1 - i) → y < 2 ^ at (S .widths) (1 - i)
   other-lt h e = rw e (slot-lt (slot-at (A .fair) key (1 - i) (omega arith)))
@@ -94,7 +67,7 @@ module _ {S : Spot} {i t m : ℕ} (A : Asked S i t) (key : S .kind ≡ m) where
         two-of (λ j. at (S .widths) j ≡ S .width) j h (e .0) (e .1)
 
     both-wide : at (S .widths) i ≤ S .width
-    both-wide = le-of-eq (both-width i (rw both-two at place))
+    both-wide = le-of-eq (both-width i (rw both-two at (place A key)))
 
     both-other : at (S .widths) (1 - i) ≡ S .width
     both-other = both-width (1 - i) (omega arith)

@@ -12,7 +12,7 @@ ghost use Rattle.boxes.specs.inner.Boxes.{Solves};
 ghost use Rattle.picking.specs.inner.Asks.{branchOf, HadIf};
 
 // The branch that is taken, as a position.
-pub(crate) fn branch(x: u64) -> u32
+pub fn branch(x: u64) -> u32
     ensures { λ r. ⌜ r ≡ branchOf x ⌝ }
 {
     if x == 0 { 2 } else { 1 }

@@ -1,11 +1,10 @@
-// Picking at one node taken out of a problem: inverse and consistent values, and essential positions.
+// Picking at one node taken out of a problem: inverse and consistent values.
 mod arithmetic;
 mod basic;
 mod bitwise;
 mod choice;
 mod comparisons;
 mod divisions;
-mod essentials;
 mod joining;
 mod picks;
 mod sets;
@@ -13,10 +12,10 @@ mod shifts;
 mod signed;
 mod spot;
 
-pub use essentials::essential;
-pub use essentials::essential_positions;
+pub use choice::branch;
 pub use picks::pick_consistent;
 pub use picks::pick_inverse;
+pub use picks::some_inverse;
 pub use spot::Spot;
 pub use spot::Three;
-pub use spot::marks;
+pub use spot::at;

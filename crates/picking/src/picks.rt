@@ -1,10 +1,14 @@
-// The picks from the inverse and the consistent set of a node's position, with a proposal.
+// The picks from the inverse and the consistent set of a node's position, with a proposal, and some inverse value without one.
+use crate::arithmetic::difference;
+use crate::bitwise::turned;
 use crate::sets::consistent_set;
 use crate::sets::inverse_set;
 use crate::spot::Spot;
 use crate::spot::at;
+use crate::spot::other;
 use boxes::Set;
 use boxes::pick_in;
+use boxes::pick_only;
 use words::Found;
 ghost use mathlib.Core.Path.{_≡_};
 ghost use Prim.Native.Nat.{_%_, _^_, _<_};
@@ -34,7 +38,7 @@ fn set_of(s: Spot, i: u32, t: u64, inverse: bool) -> Set
 }
 
 // The pick from the inverse or the consistent set. One function for both, so that each set is picked from where it is made.
-pub(crate) fn pick(s: Spot, i: u32, t: u64, p: u64, inverse: bool) -> Found
+fn pick(s: Spot, i: u32, t: u64, p: u64, inverse: bool) -> Found
     requires { ⌜ Asked s i t ⌝ }
     ensures { λ r. ⌜ Picked (Wanted inverse s t i) p r ⌝ }
 {
@@ -57,4 +61,22 @@ pub fn pick_consistent(s: Spot, i: u32, t: u64, p: u64) -> Found
     ensures { λ r. ⌜ Picked (Consistent s t i) (p % 2 ^ standing (s .widths) i) r ⌝ }
 {
     pick(s, i, t, proposed(s, i, p), false)
+}
+
+// An inverse value, if there is one. Of xor and add there is one value to ask for, and no set to be made.
+pub fn some_inverse(s: Spot, i: u32, t: u64) -> Found
+    requires { ⌜ Asked s i t ⌝ }
+    ensures { λ r. ⌜ Picked (Inverse s t i) 0 r ⌝ }
+{
+    let los = s.los;
+    let his = s.his;
+    let now = s.current;
+    let y = other(now, i);
+    if s.kind == 4 {
+        return pick_only(turned(y, t), true, at(los, i), at(his, i));
+    }
+    if s.kind == 5 {
+        return pick_only(difference(s.width, y, t), true, at(los, i), at(his, i));
+    }
+    pick(s, i, t, 0, true)
 }

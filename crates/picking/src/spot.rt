@@ -2,7 +2,6 @@
 ghost use mathlib.Core.Path.{_≡_};
 ghost use Prim.Native.Nat.{_-_};
 ghost use Rattle.picking.specs.Spot.{at as standing};
-ghost use Rattle.picking.specs.inner.Marks.{mark};
 
 // What stands at the positions a, b and c of a node.
 pub struct Three {
@@ -24,7 +23,7 @@ pub struct Spot {
 }
 
 // What stands at position i: a, b, c are 0, 1, 2.
-pub(crate) fn at(x: Three, i: u32) -> u64
+pub fn at(x: Three, i: u32) -> u64
     ensures { λ r. ⌜ r ≡ standing x i ⌝ }
 {
     if i == 0 {
@@ -41,11 +40,4 @@ pub(crate) fn other(x: Three, i: u32) -> u64
     ensures { λ r. ⌜ r ≡ standing x (1 - i) ⌝ }
 {
     if i == 0 { x.b } else { x.a }
-}
-
-// Positions as the bits of a number: a bit is set where the answer for its position is yes.
-pub fn marks(a: bool, b: bool, c: bool) -> u32
-    ensures { λ r. ⌜ r ≡ mark a b c ⌝ }
-{
-    (a as u32) + 2 * (b as u32) + 4 * (c as u32)
 }

@@ -25,8 +25,8 @@ use Rattle.picking.specs.declared.spot.Spot.{Spot}
 use Rattle.picking.specs.declared.spot.Three.{Three}
 use Rattle.picking.specs.Spot.{at, put, positions, Other, value, Inverse, Consistent, Essential, NoneEssential, Candidate, Fair}
 use Rattle.picking.specs.laws.Positions.{few-positions, at-put-same, at-put-other, put-same, value-used}
-use Rattle.picking.specs.inner.Marks.{marked, Marks, mark}
-use Rattle.picking.specs.laws.Marks.{marks-three, marks-none, marks-some, marks-same, marks-both, marks-fewer}
+use Rattle.essentials.specs.inner.Marks.{marked, Marks, mark}
+use Rattle.essentials.specs.laws.Marks.{marks-three, marks-none, marks-some, marks-same, marks-both, marks-fewer}
 use Rattle.evaluation.specs.Lists.{Lists, Lists.done, Lists.keep, Lists.skip}
 use Rattle.search.specs.Step.{Out, blocked, Follows, Follows.consistent, Follows.nothing, Step, Step.none-left, Step.followed}
 use Rattle.evaluation.specs.laws.Decide.{lists-member}

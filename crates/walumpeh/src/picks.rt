@@ -69,7 +69,7 @@ pub extern "C" fn wal_essential(
 {
     let s = spot(kind, width, low, node);
     if offered(s, position, target) {
-        return picking::essential(s, position, target) as u8;
+        return essentials::essential(s, position, target) as u8;
     }
     2
 }

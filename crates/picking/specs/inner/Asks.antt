@@ -57,10 +57,6 @@ pub record Joined (i a b t : ℕ) : Type 0 where
   pub wide : a + b ≤ 64
   pub fits : t < 2 ^ (a + b)
 
--- the kinds of one position: not, extract, sign extension
-abbrev pub Alone : ℕ → Type 0
-Alone n = (n ≡ 2) ⊎ ((n ≡ 13) ⊎ (n ≡ 16))
-
 -- t is had from an `if` of which one branch has the value kept and is taken where the condition is way: the condition's
 -- pair is lo, hi, and the other branch's l, h
 abbrev pub Had : ℕ → ℕ → ℕ → ℕ → ℕ → ℕ → ℕ → Type 0

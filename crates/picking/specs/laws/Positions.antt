@@ -3,7 +3,7 @@
 use mathlib.Core.Path.{_≡_, refl}
 use mathlib.Core.Bool.{Bool, _&&_}
 use mathlib.Core.List.{List, [], _∷_}
-use Prim.Native.Nat.{ℕ, zero, suc, _≤_, _<_}
+use Prim.Native.Nat.{ℕ, zero, suc, _-_, _≤_, _<_}
 use native.Mathlib.Omega.{arith}
 use lib.Dec.{T, leb, leb→le}
 use lib.Ieee.Fits.{and-l, and-r}
@@ -62,3 +62,17 @@ pub value-used : (S : Spot) (x y : Three) → ((j : ℕ) → j < positions S →
 value-used S x y h =
     meaning-used (kindOf (S .kind)) (S .width) (S .widths .a) (S .widths .b) (S .low) (x .a) (x .b) (x .c) (y .a) (y .b) (y .c)
     (used-of (positions S) (λ j. at x j ≡ at y j) h)
+
+-- ---- of two positions
+
+-- what holds of a and of b holds of any of two positions
+pub two-of : (P : ℕ → Type 0) (i : ℕ) → i < 2 → P 0 → P 1 → P i
+two-of P zero h a b = a
+two-of P (suc zero) h a b = b
+two-of P (suc (suc i)) h a b = absurd (omega arith)
+
+pub two-by-two : (P : ℕ → ℕ → Type 0) (i j : ℕ) → i < 2 → j < 2 → P 0 0 → P 0 1 → P 1 0 → P 1 1 → P i j
+two-by-two P i j h l a b c d = two-of (λ i. P i j) i h (two-of (P 0) j l a b) (two-of (P 1) j l c d)
+
+pub other-of : (i j : ℕ) → i < 2 → j < 2 → (j ≡ i → ⊥) → j ≡ 1 - i
+other-of i j h l f = omega arith

@@ -14,7 +14,7 @@ use Rattle.problem.specs.Layout.{nodeCount}
 use Rattle.problem.specs.Refusals.{checked}
 use Rattle.picking.specs.declared.spot.Spot.{Spot}
 use Rattle.picking.specs.Spot.{at, positions, Fair}
-use Rattle.picking.specs.inner.Marks.{marked}
+use Rattle.essentials.specs.inner.Marks.{marked}
 use Rattle.search.specs.declared.moves.Stop.{Stop}
 use Rattle.search.specs.declared.moves.Stop.the-variants.{Sets, Stuck, Short}
 use Rattle.search.specs.declared.moves.Turn.{Turn}

@@ -8,7 +8,8 @@ use Rattle.picking.proofs.ArithmeticLaws.{product-comm}
 use Rattle.picking.proofs.ComparisonLaws.{equal-comm}
 use Rattle.picking.proofs.IfLaws.{if-reach}
 use Rattle.picking.proofs.KindLaws.{no-set-left}
-use Rattle.picking.proofs.SpotLaws.{rule-at, slot-at, place, count-at, other-pair, equal-pair, flag-target, joined-at, extract-at, sext-at, short-at, arm-one, reach-one, reach-add, both-reach, wide-reach, equal-reach, side-short, side-reach, alike-some}
+use Rattle.picking.specs.laws.Fair.{rule-at, slot-at, place, count-at}
+use Rattle.picking.proofs.SpotLaws.{other-pair, equal-pair, flag-target, joined-at, extract-at, sext-at, short-at, arm-one, reach-one, reach-add, both-reach, wide-reach, equal-reach, side-short, side-reach, alike-some}
 use Rattle.picking.proofs.sets.consistent_set.Statement.{statement}
 use Rattle.picking.proofs.sets.consistent_set.Tie as tie
 

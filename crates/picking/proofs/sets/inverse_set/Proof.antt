@@ -7,7 +7,8 @@ use borrow.Author.Needs.{needs}
 use Rattle.picking.proofs.ArithmeticLaws.{sum-comm, product-comm}
 use Rattle.picking.proofs.ComparisonLaws.{equal-comm}
 use Rattle.picking.proofs.KindLaws.{no-set-left}
-use Rattle.picking.proofs.SpotLaws.{rule-at, slot-at, wide-at, place, both-lt, flag-target, joined-at, extract-at, sext-at, short-at, arm, arm-one, wide-arm, both-arm, equal-lt, equal-arm, side-lt, side-arm, alike-by}
+use Rattle.picking.specs.laws.Fair.{rule-at, slot-at, place}
+use Rattle.picking.proofs.SpotLaws.{wide-at, both-lt, flag-target, joined-at, extract-at, sext-at, short-at, arm, arm-one, wide-arm, both-arm, equal-lt, equal-arm, side-lt, side-arm, alike-by}
 use Rattle.picking.proofs.sets.inverse_set.Statement.{statement}
 use Rattle.picking.proofs.sets.inverse_set.Tie as tie
 

@@ -1,0 +1,2 @@
+-- Laws of the definitions, for proofs. Nothing here has to be read to know what is promised.
+pub mod Marks
