@@ -16,23 +16,24 @@ use Rattle.problem.specs.laws.First.{then-left, then-right, then-refused}
 use Rattle.search.specs.declared.Verdict.{Verdict}
 use Rattle.search.specs.declared.Answer.{Answer}
 use Rattle.nodes.specs.Problem.{problem, evaluate}
-use Rattle.search.specs.declared.moves.Turn.the-variants.{Finished, Unfinished}
-use Rattle.search.specs.Run.{ClosedRoot, Unsatisfied, AllOne, answer, Run, Run.model, Run.spent, Run.ended, Run.moved, Run.held}
+use Rattle.moves.specs.declared.Turn.the-variants.{Finished, Unfinished}
+use Rattle.moves.specs.Moves.{ClosedRoot, Unsatisfied, AllOne}
+use Rattle.search.specs.Run.{answer, Run, Run.model, Run.spent, Run.ended, Run.moved, Run.held}
 use Rattle.search.specs.Call.{placesFault, refusals}
 use Rattle.nodes.specs.inner.Good.{Good, Held}
 use Rattle.nodes.specs.laws.Good.{good-of}
 use Rattle.evaluation.specs.laws.Values.{held-evaluate}
 use Rattle.search.specs.promises.Accepted.{accepted-start}
 use Rattle.search.specs.laws.Starts.{places-right, then-assoc}
-use Rattle.search.specs.laws.Moves.{move-lands}
+use Rattle.moves.specs.laws.Moves.{move-lands, no-more, some-left}
 use Rattle.search.specs.laws.Runs.{kept-after}
 use Rattle.nodes.specs.inner.Nodes.{Filled}
 use Rattle.evaluation.specs.inner.Evaluation.{Assigned}
 use Rattle.evaluation.specs.inner.Lists.{Count}
 use Rattle.evaluation.specs.inner.Readers.{Indexed}
 use Rattle.evaluation.specs.laws.Decide.{lists-length}
-use Rattle.search.specs.inner.Run.{Searching, Drawing, Finishes, Finishes.sets-one, Finishes.sets-none, Turned, Searched, Lent}
-use Rattle.search.proofs.Places.{no-more, some-left}
+use Rattle.moves.specs.inner.Moves.{Searching, Drawing, Finishes, Finishes.sets-one, Finishes.sets-none, Turned}
+use Rattle.search.specs.inner.Run.{Searched, Lent}
 
 -- where the loop of a run is: values that hold, with the problem's own index of readers, m moves and so many steps made, at
 -- place k of the tape, e nodes evaluated; and what the rest of the run comes to, the whole run comes to

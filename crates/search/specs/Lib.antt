@@ -1,5 +1,4 @@
 -- The definitions to be believed, in this order; then by folder what is inner, what is promised, and laws.
-pub mod Step
 pub mod Run
 pub mod Call
 pub mod Answers

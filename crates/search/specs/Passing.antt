@@ -8,7 +8,8 @@ use Rattle.search.specs.declared.Answer.{Answer}
 use Rattle.nodes.specs.Problem.{Prob, problem, evaluate}
 use Rattle.evaluation.specs.Lists.{Lists}
 use Rattle.evaluation.specs.Readers.{Above}
-use Rattle.search.specs.Run.{sets, stuck, AllOne, Move, ClosedRoot, Run}
+use Rattle.moves.specs.Moves.{sets, stuck, AllOne, Move, ClosedRoot}
+use Rattle.search.specs.Run.{Run}
 use Rattle.search.specs.Call.{refusals, Called}
 
 -- the longer call: "a greater or equal budget and a tape that begins with the same words", those that the answer a used

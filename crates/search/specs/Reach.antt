@@ -4,7 +4,7 @@ use Prim.Native.Nat.{ℕ, zero, suc, _+_}
 use lib.Dec.{eqb}
 use lib.ListN.{getD}
 use Rattle.nodes.specs.Problem.{oneOf, Prob}
-use Rattle.search.specs.Run.{AllOne}
+use Rattle.moves.specs.Moves.{AllOne}
 use Rattle.nodes.specs.Values.{Evaluated, VariablesAgree}
 
 module _ (P : Prob) where

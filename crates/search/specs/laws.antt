@@ -1,10 +1,8 @@
 -- Laws of the definitions, for proofs. Nothing here has to be read to know what is promised.
 pub mod Apart
-pub mod Candidates
 pub mod Found
 pub mod Lead
 pub mod More
-pub mod Moves
 pub mod Room
 pub mod Runs
 pub mod Starts

@@ -1,17 +1,15 @@
-// The run of document 01, an entry point: steps, moves, and whole runs.
+// The run of document 01, an entry point: move after move, from the start to a verdict.
 ghost use mathlib.Core.Path.{_≡_};
 ghost use Prim.Native.Nat.{_+_, _*_};
 ghost use Rattle.nodes.specs.inner.Nodes.{Fills};
 ghost use Rattle.evaluation.specs.inner.Readers.{Indexed};
 ghost use Rattle.search.specs.Run.{answer};
 ghost use Rattle.search.specs.Call.{refused, Called};
-ghost use Rattle.search.specs.inner.Run.{Searching, Searched, Lent, Unprepared, Prepared};
+ghost use Rattle.moves.specs.inner.Moves.{Searching};
+ghost use Rattle.search.specs.inner.Run.{Searched, Lent, Unprepared, Prepared};
 
 mod answers;
-mod moves;
-mod roots;
 mod starts;
-mod step;
 
 pub use answers::outcome_code;
 pub use answers::refusal_code;
@@ -19,13 +17,13 @@ pub use answers::verdict_code;
 use evaluation::evaluate;
 use evaluation::index_readers;
 use moves::Turn;
+use moves::closed_root;
+use moves::count_unsatisfied;
 use moves::finish_move;
 use nodes::fill;
 use problem::Checked;
 use problem::Refusal;
 use problem::node_count;
-use roots::closed_root;
-use roots::count_unsatisfied;
 use starts::lent_fault;
 use starts::starts_fault;
 

@@ -2,7 +2,7 @@
 use mathlib.Core.List.{List}
 use Prim.Native.Nat.{ℕ, suc}
 use Rattle.nodes.specs.Problem.{Prob}
-use Rattle.search.specs.Run.{End, Walk, Walk.arrives, Walk.unserved, Walk.stops, Walk.onward, Move, Move.no-word, Move.from-root}
+use Rattle.moves.specs.Moves.{End, Walk, Walk.arrives, Walk.unserved, Walk.stops, Walk.onward, Move, Move.no-word, Move.from-root}
 
 module _ {P : Prob} {vs : List ℕ} where
   -- the steps that a walk makes, whether it comes to its end or to that of the tape

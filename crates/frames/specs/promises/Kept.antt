@@ -19,7 +19,7 @@ use Rattle.search.specs.declared.Verdict.{Verdict}
 use Rattle.search.specs.declared.Outcome.{Outcome}
 use Rattle.search.specs.declared.Answer.{Answer}
 use Rattle.search.specs.Answers.{said, verdictNumber, verdictCode, answerWords}
-use Rattle.search.specs.Run.{AllOne}
+use Rattle.moves.specs.Moves.{AllOne}
 use Rattle.search.specs.Call.{Called}
 use Rattle.batches.specs.Batch.{places, stretch, Start, Batch}
 use Rattle.search.specs.promises.Demands.{clash, Settled, demand-2}

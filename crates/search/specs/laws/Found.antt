@@ -12,7 +12,8 @@ use lib.Seq.{getD-set-same, getD-set-other}
 use Rattle.search.specs.declared.Verdict.{Verdict}
 use Rattle.search.specs.declared.Answer.{Answer}
 use Rattle.nodes.specs.Problem.{Prob, Variable, evaluate}
-use Rattle.search.specs.Run.{End, sets, Walk, Move, Move.from-root, Unsatisfied, AllOne, answer, Run, Run.model, Run.moved, Whole, Whole.searched}
+use Rattle.moves.specs.Moves.{End, sets, Walk, Move, Move.from-root, Unsatisfied, AllOne}
+use Rattle.search.specs.Run.{answer, Run, Run.model, Run.moved, Whole, Whole.searched}
 use Rattle.nodes.specs.Values.{VariablesAgree, NodesAgree}
 use Rattle.search.specs.Reach.{Solution, apart}
 use Rattle.evaluation.specs.Height.{Longest}
@@ -22,7 +23,7 @@ use Rattle.evaluation.specs.laws.Values.{evaluate-variable, evaluated-same}
 use Rattle.evaluation.specs.Readers.{Above}
 use Rattle.evaluation.specs.laws.Above.{above-listed}
 use Rattle.nodes.specs.laws.Pairs.{all-agree, every-node}
-use Rattle.search.specs.laws.Moves.{Lands}
+use Rattle.moves.specs.laws.Moves.{Lands}
 use Rattle.search.specs.laws.Runs.{kept-start, kept-after, closed-none}
 use Rattle.search.specs.laws.Apart.{apart-none, apart-le, apart-lt}
 use Rattle.search.specs.laws.Lead.{Small, small-cons, lead}

@@ -15,14 +15,14 @@ use Rattle.words.specs.laws.Pick.{pick-self}
 use Rattle.picking.specs.declared.spot.Spot.{Spot}
 use Rattle.picking.specs.Spot.{at, put, positions, Other, value, Admitted, Essential, NoneEssential, Consistent, Candidate}
 use Rattle.nodes.specs.Problem.{Prob, count, arg, Variable, spotOf, spot, pairLo, pairHi}
-use Rattle.search.specs.Step.{Follows, Follows.consistent, Step, Step.followed, goes}
-use Rattle.search.specs.Run.{sets, Walk, Walk.arrives, Walk.onward}
+use Rattle.moves.specs.Step.{Follows, Follows.consistent, Step, Step.followed, goes}
+use Rattle.moves.specs.Moves.{sets, Walk, Walk.arrives, Walk.onward}
 use Rattle.nodes.specs.Values.{Evaluated, NodesAgree}
 use Rattle.evaluation.specs.Height.{Chain, Chain.ends, Chain.link}
 use Rattle.nodes.specs.inner.Good.{Good}
 use Rattle.picking.specs.laws.Positions.{few-positions, put-same}
 use Rattle.evaluation.specs.laws.Decide.{Some, dec-some, all-or-some, Listed, listed, lists-length, Stands, lists-find}
-use Rattle.search.specs.laws.Candidates.{dec-essential, dec-candidate}
+use Rattle.moves.specs.laws.Candidates.{dec-essential, dec-candidate}
 use Rattle.nodes.specs.laws.Nodes.{variable, constant, inner, which, at-column, operands, value-constant, value-operator, value-same, operand-node, width-at}
 use Rattle.nodes.specs.laws.Pairs.{agreeing-lt}
 

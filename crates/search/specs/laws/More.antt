@@ -12,12 +12,14 @@ use Rattle.search.specs.Answers.{said}
 use Rattle.nodes.specs.Problem.{Prob, problem, evaluate, arg, spot, Variable}
 use Rattle.evaluation.specs.Lists.{Lists}
 use Rattle.evaluation.specs.laws.Lists.{lists-unique}
-use Rattle.search.specs.Step.{Step, goes, blocked}
-use Rattle.search.specs.Run.{End, sets, stuck, short, Walk, Walk.arrives, Walk.unserved, Walk.stops, Walk.onward, Unsatisfied, Move, Move.no-word, Move.from-root, ClosedRoot, answer, Run, Run.model, Run.spent, Run.ended, Run.moved, Run.held, Whole, Whole.closed, Whole.searched}
+use Rattle.moves.specs.Step.{Step, goes, blocked}
+use Rattle.moves.specs.Moves.{End, sets, stuck, short, Walk, Walk.arrives, Walk.unserved, Walk.stops, Walk.onward, Unsatisfied, Move, Move.no-word, Move.from-root, ClosedRoot}
+use Rattle.search.specs.Run.{answer, Run, Run.model, Run.spent, Run.ended, Run.moved, Run.held, Whole, Whole.closed, Whole.searched}
 use Rattle.search.specs.Call.{refusals, Called, Called.refuses, Called.runs}
-use Rattle.search.specs.laws.Moves.{move-spends}
+use Rattle.moves.specs.laws.Moves.{move-spends}
 use Rattle.search.specs.laws.Runs.{same-name, run-concluded}
-use Rattle.search.specs.promises.Determined.{move-unique, two-ends, not-both, called-unique}
+use Rattle.moves.specs.promises.Determined.{move-unique, two-ends}
+use Rattle.search.specs.promises.Determined.{not-both, called-unique}
 use Rattle.search.specs.Passing.{Longer, Only, Passes, Passes.here, Passes.after-set, Passes.after-held, Through}
 
 -- ---- the same words again
@@ -177,7 +179,7 @@ module _ (P : Prob) (B : ℕ) where
   passes-onward here r = r
   passes-onward (after-set x b k u p) (model y) = absurd (x y)
   passes-onward (after-set x b k u p) (spent x′ b′) = absurd (omega arith)
-  passes-onward (after-set x b k u p) (ended x′ b′ k′) = absurd (two-ends P B k k′ (omega arith))
+  passes-onward (after-set x b k u p) (ended x′ b′ k′) = absurd (two-ends P _ k k′ (omega arith))
   passes-onward {vs} (after-set {ws₁ = ws₁} {us = us₁} {s₁ = s₁} {n = n} {v = v} x b k u p) (moved {ws′ = ws₂} {us = us₂} {s′ = s₂} {n = n′} {v = v′} x′ b′ k′ u′ r′) =
       let e : sets n v s₁ ws₁ ≡ sets n′ v′ s₂ ws₂ = move-unique P vs k k′ in
       let e₁ : n ≡ n′ = cc in
@@ -186,11 +188,11 @@ module _ (P : Prob) (B : ℕ) where
       let e₄ : ws₁ ≡ ws₂ = cc in
       let e₅ : us₁ ≡ us₂ = lists-unique u (rw e₁ u′) in
       passes-onward p (rw (e₁, e₂, e₃, e₄, e₅) r′)
-  passes-onward (after-set x b k u p) (held x′ b′ k′ r′) = absurd (two-ends P B k k′ (omega arith))
+  passes-onward (after-set x b k u p) (held x′ b′ k′ r′) = absurd (two-ends P _ k k′ (omega arith))
   passes-onward (after-held x b k p) (model y) = absurd (x y)
   passes-onward (after-held x b k p) (spent x′ b′) = absurd (omega arith)
-  passes-onward (after-held x b k p) (ended x′ b′ k′) = absurd (two-ends P B k k′ (omega arith))
-  passes-onward (after-held x b k p) (moved x′ b′ k′ u′ r′) = absurd (two-ends P B k k′ (omega arith))
+  passes-onward (after-held x b k p) (ended x′ b′ k′) = absurd (two-ends P _ k k′ (omega arith))
+  passes-onward (after-held x b k p) (moved x′ b′ k′ u′ r′) = absurd (two-ends P _ k k′ (omega arith))
   passes-onward {vs} (after-held {ws₁ = ws₁} {s₁ = s₁} x b k p) (held {ws′ = ws₂} {s′ = s₂} x′ b′ k′ r′) =
       let e : stuck s₁ ws₁ ≡ stuck s₂ ws₂ = move-unique P vs k k′ in
       let e₃ : s₁ ≡ s₂ = cc in

@@ -7,25 +7,24 @@ use mathlib.Core.List.{List}
 use Prim.Native.Nat.{ℕ, _+_, _*_, _≤_, _<_}
 use Prim.Native.String.{String}
 use native.Mathlib.Omega.{arith}
-use native.Mathlib.Decide.{ℕ-discrete}
 use lib.ListN.{length, getD, set, length-set}
 use lib.Dec.{T}
 use lib.Text.{eqt, eqt-refl}
-use lib.Seq.{getD-set-same, getD-set-other}
+use lib.Seq.{getD-set-other}
 use Rattle.words.specs.laws.Agree.{within-hi, within-le}
-use Rattle.fixed.specs.declared.Pair.{Pair}
-use Rattle.fixed.specs.inner.Pairs.{Agreeing}
 use Rattle.search.specs.declared.Verdict.{Verdict}
 use Rattle.search.specs.declared.Outcome.{Outcome}
 use Rattle.search.specs.declared.Answer.{Answer}
 use Rattle.search.specs.Answers.{name, said}
 use Rattle.nodes.specs.Problem.{Prob, evaluate}
-use Rattle.search.specs.Run.{AllOne, ClosedRoot, answer, Run, Run.model, Run.spent, Run.ended, Run.moved, Run.held, Whole, Whole.closed, Whole.searched}
+use Rattle.moves.specs.Moves.{AllOne, ClosedRoot}
+use Rattle.search.specs.Run.{answer, Run, Run.model, Run.spent, Run.ended, Run.moved, Run.held, Whole, Whole.closed, Whole.searched}
 use Rattle.nodes.specs.Values.{VariablesAgree, NodesAgree}
 use Rattle.nodes.specs.inner.Good.{Good, Held}
 use Rattle.evaluation.specs.laws.Values.{length-evaluate, evaluate-above, held-evaluate}
-use Rattle.nodes.specs.laws.Pairs.{pairs-own, every-node}
-use Rattle.search.specs.laws.Moves.{Lands, move-lands, move-spends}
+use Rattle.nodes.specs.laws.Pairs.{every-node}
+use Rattle.moves.specs.laws.Moves.{Lands, move-lands, move-spends}
+use Rattle.moves.specs.laws.Setting.{after-agrees}
 
 module _ (P : Prob) (g : Good P) where
   -- values that hold, in as many places, with those beyond the nodes untouched
@@ -53,19 +52,9 @@ module _ (P : Prob) (g : Good P) where
     room : P .nodes ≤ length (set vs n v)
     room = omega (arith, length-set vs n v, h .places)
 
-    pub after-agrees : VariablesAgree P (set vs n v)
-    unfolding VariablesAgree
-    after-agrees m l k =
-        elim (ℕ-discrete m n) [
-          | yes e ↦
-              rw (e, getD-set-same vs n v 0 (omega (arith, to .node, h .places)))
-              (subst (λ (p : Pair). Agreeing p v) (pairs-own P g n (to .node) (omega (arith, to .is-var))) (to .aimed))
-          | no x ↦ rw (getD-set-other vs n m v 0 x) (h .agrees m l k)
-        ]
-
     pub kept-after : Kept vs (evaluate P (set vs n v))
     kept-after =
-        let e = kept-start (set vs n v) room after-agrees in
+        let e = kept-start (set vs n v) room (after-agrees P g vs h n v to) in
         record {
           values = e .values;
           long = e .long ∙ length-set vs n v;

@@ -18,7 +18,8 @@ use Rattle.search.specs.declared.Outcome.{Outcome}
 use Rattle.search.specs.declared.Answer.{Answer}
 use Rattle.search.specs.Answers.{numberOf, placeOf, name, said}
 use Rattle.nodes.specs.Problem.{Prob, problem, Variable, evaluate}
-use Rattle.search.specs.Run.{AllOne, ClosedRoot, answer, Whole, Whole.closed, Whole.searched}
+use Rattle.moves.specs.Moves.{AllOne, ClosedRoot}
+use Rattle.search.specs.Run.{answer, Whole, Whole.closed, Whole.searched}
 use Rattle.search.specs.Call.{refusals, refused, Called, Called.refuses, Called.runs}
 use Rattle.nodes.specs.Values.{Evaluated, NodesAgree}
 use Rattle.search.specs.Reach.{Solution, apart}

@@ -13,14 +13,15 @@ use Rattle.fixed.specs.declared.Pair.{Pair}
 use Rattle.search.specs.declared.Answer.{Answer}
 use Rattle.search.specs.Answers.{said}
 use Rattle.nodes.specs.Problem.{Prob, arg, Variable, pairLo, pairHi}
-use Rattle.search.specs.Run.{End, sets, stuck, short, Walk, Walk.arrives, Walk.unserved, Walk.stops, Walk.onward, Unsatisfied, AllOne, Move, Move.no-word, Move.from-root, ClosedRoot, Run, Run.model, Run.spent, Run.ended, Run.moved, Run.held}
+use Rattle.moves.specs.Moves.{End, sets, stuck, short, Walk, Walk.arrives, Walk.unserved, Walk.stops, Walk.onward, Unsatisfied, AllOne, Move, Move.no-word, Move.from-root, ClosedRoot}
+use Rattle.search.specs.Run.{Run, Run.model, Run.spent, Run.ended, Run.moved, Run.held}
 use Rattle.nodes.specs.Values.{Evaluated}
 use Rattle.evaluation.specs.Height.{Chain, Chain.ends, Chain.link, Longest}
 use Rattle.nodes.specs.inner.Good.{Good, Held}
 use Rattle.nodes.specs.laws.Nodes.{which, variable, constant, inner, value-constant}
 use Rattle.nodes.specs.laws.Pairs.{pairs-own}
 use Rattle.evaluation.specs.laws.Decide.{lists-member}
-use Rattle.search.specs.laws.Moves.{step-next, move-lands, move-spends, some-unsatisfied}
+use Rattle.moves.specs.laws.Moves.{step-next, move-lands, move-spends, some-unsatisfied}
 use Rattle.search.specs.laws.Runs.{kept-after, same-text}
 use Rattle.tapes.specs.Steps.{steps, stepsOf}
 

@@ -10,7 +10,8 @@ use Rattle.problem.specs.Refusals.{checked}
 use Rattle.search.specs.declared.Answer.{Answer}
 use Rattle.search.specs.Answers.{said}
 use Rattle.nodes.specs.Problem.{problem}
-use Rattle.search.specs.Run.{End, AllOne, Move, ClosedRoot, Whole.closed, Whole.searched}
+use Rattle.moves.specs.Moves.{End, AllOne, Move, ClosedRoot}
+use Rattle.search.specs.Run.{Whole.closed, Whole.searched}
 use Rattle.search.specs.Call.{Called, Called.refuses, Called.runs}
 use Rattle.nodes.specs.Values.{Evaluated}
 use Rattle.evaluation.specs.Height.{Longest}

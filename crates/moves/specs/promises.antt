@@ -1,0 +1,2 @@
+-- What is promised, as theorems over all that the contracts allow.
+pub mod Determined
