@@ -1,66 +1,31 @@
 -- A line that passes and makes no node, though it is a value's, only gives another name; and another name makes no node.
 use mathlib.Core.Path.{_≡_, refl, sym, ap, _∙_}
 use mathlib.Core.Bool.{Bool, true, false, cond, not, _&&_, _||_, false≢true}
-use mathlib.Core.List.{List, [], _∷_, _++_}
-use Prim.Native.Nat.{ℕ, zero, suc, _+_, _-_, _≤_, _<_}
+use mathlib.Core.List.{List, [], _∷_}
+use Prim.Native.Nat.{ℕ, suc, _+_, _-_, _<_}
 use native.Mathlib.Omega.{arith}
-use lib.Dec.{T, eqb, ltb, leb, ltb→lt}
+use lib.Dec.{T, eqb, ltb, ltb→lt}
 use lib.ListN.{length, getD, length-append}
-use borrow.Author.Tests.{eq-eqb, ne-eqb, eqb-true, eqb-false}
-use Rattle.words.specs.laws.Cases.{every, every-at}
+use borrow.Author.Tests.{ne-eqb, eqb-true}
+use Rattle.words.specs.laws.Cases.{every-at}
 use Rattle.texts.specs.Numbers.{valueIn}
 use Rattle.lines.specs.laws.Word.{or-right}
 use Rattle.lines.specs.declared.table.Makes.the-variants.{Value}
 use Rattle.spelling.specs.declared.forms.Form.{Form}
 use Rattle.spelling.specs.declared.forms.Form.the-variants as form
 use Rattle.lines.specs.Lines.{Token, token}
-use Rattle.lines.specs.Words.{Word, sort, input, zeros, one, ones, const, constd, consth, inv, conj, disj, xor, add, sub, mul, sll, srl, sra, eq, neq, ult, slt, ite, concat, slice, uext, sext, constraint, other, numberOf, wordOf, row, shape}
+use Rattle.lines.specs.Words.{Word, numberOf, wordOf, row, shape}
 use Rattle.lines.specs.Format.{signed, unsigned, refOf, refsFrom, itemOf, item}
-use Rattle.spelling.specs.Nodes.{own, operator, constantNode, invert, nots, placed}
+use Rattle.spelling.specs.Nodes.{own, invert, nots, placed}
 use Rattle.btor2.specs.Conversion.{State, at, known, operandOf, operands, newNodes, nodeFor, anyUnknown}
-use Rattle.spelling.specs.inner.Spelled.{formOf, ownCount}
+use Rattle.spelling.specs.inner.Spelled.{formOf, kindFor, ownCount}
+use Rattle.spelling.specs.laws.Rule.{own-form}
+use Rattle.spelling.specs.laws.Spell.{own-length}
 use Rattle.lines.specs.inner.Told.{isAlias}
 
 -- how many nodes of its own a keyword's line makes
 pub own-count : (k : Word) (w n a b c p q v : ℕ) → length (own k w n a b c p q v) ≡ ownCount (formOf k) p
-unfolding own formOf ownCount
-own-count sort w n a b c p q v = refl
-own-count input w n a b c p q v = refl
-own-count zeros w n a b c p q v = refl
-own-count one w n a b c p q v = refl
-own-count ones w n a b c p q v = refl
-own-count const w n a b c p q v = refl
-own-count constd w n a b c p q v = refl
-own-count consth w n a b c p q v = refl
-own-count inv w n a b c p q v = refl
-own-count conj w n a b c p q v = refl
-own-count disj w n a b c p q v = refl
-own-count xor w n a b c p q v = refl
-own-count add w n a b c p q v = refl
-own-count sub w n a b c p q v = refl
-own-count mul w n a b c p q v = refl
-own-count sll w n a b c p q v = refl
-own-count srl w n a b c p q v = refl
-own-count sra w n a b c p q v = refl
-own-count eq w n a b c p q v = refl
-own-count neq w n a b c p q v = refl
-own-count ult w n a b c p q v = refl
-own-count slt w n a b c p q v = refl
-own-count ite w n a b c p q v = refl
-own-count concat w n a b c p q v = refl
-own-count slice w n a b c p q v = refl
-own-count uext w n a b c p q v = by (eqb p 0)
-  where
-    by : (t : Bool) → length (cond t [] (constantNode p 0 ∷ operator 12 w n a 0 ∷ [])) ≡ cond t 0 2
-    by true = refl
-    by false = refl
-own-count sext w n a b c p q v = by (eqb p 0)
-  where
-    by : (t : Bool) → length (cond t [] (operator 16 w a 0 0 ∷ [])) ≡ cond t 0 1
-    by true = refl
-    by false = refl
-own-count constraint w n a b c p q v = refl
-own-count other w n a b c p q v = refl
+own-count k w n a b c p q v = ap length (own-form k w n a b c p q v) ∙ own-length (formOf k) (kindFor k) w n a _ _ p q _
 
 none-of : (t : Bool) (n : ℕ) → cond t 0 (suc n) ≡ 0 → _≡_ {A = ℕ} 0 0
 none-of t n e = refl

@@ -296,22 +296,22 @@ with-distinct rs r d = by (isRoot r rs) refl
     by true e = d
     by false e = distinct-snoc rs r d e
 
+-- an input's and a value's line
+naming-fine : {room : ℕ} {ls : List (List ℕ)} {σ : State} (ts : List Token) → Sound ls σ → Passes room σ ts → Fine σ → Fine (naming σ (item ts))
+unfolding naming
+naming-fine {room} {ls} {σ} ts S P F =
+    record {
+      built = chain-all (σ .nodes) (newNodes σ (item ts)) (F .built) (line-chain ts S P (F .built));
+      roots = roots-grow (σ .nodes) (newNodes σ (item ts)) (σ .roots) (F .roots);
+      distinct = F .distinct;
+    }
+
 added-fine : {room : ℕ} {ls : List (List ℕ)} {σ : State} (ts : List Token) → Sound ls σ → Passes room σ ts → Fine σ → (k : ℕ) (m : Makes) → Role k m
     → k ≡ numberOf (token ts 1) → k < 28 → Fine (added σ (item ts) m)
 unfolding added naming
 added-fine {room} {ls} {σ} ts S P F k m makes-sort e h = record { built = F .built; roots = F .roots; distinct = F .distinct }
-added-fine {room} {ls} {σ} ts S P F k m makes-input e h =
-    record {
-      built = chain-all (σ .nodes) (newNodes σ (item ts)) (F .built) (line-chain ts S P (F .built));
-      roots = roots-grow (σ .nodes) (newNodes σ (item ts)) (σ .roots) (F .roots);
-      distinct = F .distinct;
-    }
-added-fine {room} {ls} {σ} ts S P F k m (makes-a-value a b) e h =
-    record {
-      built = chain-all (σ .nodes) (newNodes σ (item ts)) (F .built) (line-chain ts S P (F .built));
-      roots = roots-grow (σ .nodes) (newNodes σ (item ts)) (σ .roots) (F .roots);
-      distinct = F .distinct;
-    }
+added-fine {room} {ls} {σ} ts S P F k m makes-input e h = naming-fine ts S P F
+added-fine {room} {ls} {σ} ts S P F k m (makes-a-value a b) e h = naming-fine ts S P F
 added-fine {room} {ls} {σ} ts S P F k m (makes-a-root a) e h =
     let z : numberOf (token ts 1) ≡ 27 = omega arith in
     let r = root-in ts S P (F .built) z in

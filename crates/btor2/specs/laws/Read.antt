@@ -34,7 +34,7 @@ use Rattle.btor2.specs.inner.Taking.{sortMissing, operandMissing, unknow
 use Rattle.lines.specs.laws.Text.{small-id}
 use Rattle.lines.specs.laws.Word.{few-refs}
 use Rattle.spelling.specs.laws.Spell.{nots-length, new-length}
-use Rattle.spelling.specs.laws.Rule.{short-same, fits-rule, toldBy, Fields, own-spelled}
+use Rattle.spelling.specs.laws.Rule.{short-same, fits-rule, toldBy, field-none, Fields, own-spelled}
 use Rattle.btor2.specs.laws.Operand.{missing-is, Padded, padded}
 use Rattle.btor2.specs.laws.Passed.{Formed}
 use Rattle.btor2.specs.laws.Sound.{AllWide, wide-at, Sound, Role, makes-sort, makes-input, makes-a-value, makes-a-root, role}
@@ -90,38 +90,33 @@ below-ones n w = by (ltb n (2 ^ w)) refl
     by true e = le-leb n (2 ^ w - 1) (le-ones w (ltb-true n (2 ^ w) e))
     by false e = lt-leb n (2 ^ w - 1) (let h : 2 ^ w ≤ n = ltb-false n (2 ^ w) e in omega (arith, pow-pos w))
 
+-- what holds of the three keywords with constants
+constants : (P : ℕ → Type 0) → P 5 → P 6 → P 7 → (k : ℕ) → 4 < k → k < 8 → P k
+constants P a b c k l h = by (eqb k 5) (eqb k 6) refl refl
+  where
+    seven : (k ≡ 5 → ⊥) → (k ≡ 6 → ⊥) → k ≡ 7
+    seven m n = omega arith
+
+    by : (x y : Bool) → eqb k 5 ≡ x → eqb k 6 ≡ y → P k
+    by true y e f = rw (eqb-true k 5 e) a
+    by false true e f = rw (eqb-true k 6 f) b
+    by false false e f = rw (seven (eqb-false k 5 e) (eqb-false k 6 f)) c
+
 -- whether a constant fits, as the definition says it
 pub const-fits : (k w wa wb wc p q : ℕ) (t : Token) → 4 < k → k < 8
     → constantFits (shape (wordOf k) .base) w t ≡ fits (wordOf k) w wa wb wc p q (constantOf (shape (wordOf k) .base) t)
 unfolding shape constantFits fits constantOf mostOf
-const-fits k w wa wb wc p q t l h = by (eqb k 5) (eqb k 6) refl refl
+const-fits k w wa wb wc p q t =
+    constants (λ (j : ℕ). constantFits (shape (wordOf j) .base) w t ≡ fits (wordOf j) w wa wb wc p q (constantOf (shape (wordOf j) .base) t)) refl
+    (signs (signed t) (valueIn 10 (unsigned t))) (below-ones (valueIn 16 (unsigned t)) w) k
   where
     signs : (s : Bool) (n : ℕ) → leb n (cond (true && s) (2 ^ (w - 1)) (2 ^ w - 1)) ≡ cond s (leb n (2 ^ (w - 1))) (ltb n (2 ^ w))
     signs true n = refl
     signs false n = below-ones n w
 
-    by : (a b : Bool) → eqb k 5 ≡ a → eqb k 6 ≡ b
-        → constantFits (shape (wordOf k) .base) w t ≡ fits (wordOf k) w wa wb wc p q (constantOf (shape (wordOf k) .base) t)
-    by true b e f = rw (eqb-true k 5 e)
-    by false true e f = rw (eqb-true k 6 f) (signs (signed t) (valueIn 10 (unsigned t)))
-    by false false e f =
-        let z : k ≡ 7 = seven (eqb-false k 5 e) (eqb-false k 6 f) in
-        rw z (below-ones (valueIn 16 (unsigned t)) w)
-      where
-        seven : (k ≡ 5 → ⊥) → (k ≡ 6 → ⊥) → k ≡ 7
-        seven m n = omega arith
-
 pub base-some : (k : ℕ) → 4 < k → k < 8 → 0 < shape (wordOf k) .base
 unfolding shape
-base-some k l h = by (eqb k 5) (eqb k 6) refl refl
-  where
-    by : (a b : Bool) → eqb k 5 ≡ a → eqb k 6 ≡ b → 0 < shape (wordOf k) .base
-    by true b e f = rw (eqb-true k 5 e) (omega arith)
-    by false true e f = rw (eqb-true k 6 f) (omega arith)
-    by false false e f = let z : k ≡ 7 = seven (eqb-false k 5 e) (eqb-false k 6 f) in rw z (omega arith)
-      where
-        seven : (k ≡ 5 → ⊥) → (k ≡ 6 → ⊥) → k ≡ 7
-        seven m n = omega arith
+base-some = constants (λ (j : ℕ). 0 < shape (wordOf j) .base) (omega arith) (omega arith) (omega arith)
 
 -- the value that a keyword tells
 told-is : (k w : ℕ) (t : Token) (v : ℕ) → Told k w t v → 1 < k → k < 8 → 1 ≤ w → w ≤ 64
@@ -134,15 +129,7 @@ told-is k w t v O l h a c f g = by (eqb k 2) (eqb k 3) (eqb k 4) refl refl refl
     far m n o = omega arith
 
     plain : 4 < k → (u : ℕ) → toldBy (wordOf k) w u ≡ u
-    plain y u = by5 (eqb k 5) (eqb k 6) refl refl
-      where
-        by5 : (d e : Bool) → eqb k 5 ≡ d → eqb k 6 ≡ e → toldBy (wordOf k) w u ≡ u
-        by5 true e p q = rw (eqb-true k 5 p)
-        by5 false true p q = rw (eqb-true k 6 q)
-        by5 false false p q = let z : k ≡ 7 = seven (eqb-false k 5 p) (eqb-false k 6 q) in rw z
-          where
-            seven : (k ≡ 5 → ⊥) → (k ≡ 6 → ⊥) → k ≡ 7
-            seven m n = omega arith
+    plain y u = constants (λ (j : ℕ). toldBy (wordOf j) w u ≡ u) refl refl refl k y h
 
     by : (x y z : Bool) → eqb k 2 ≡ x → eqb k 3 ≡ y → eqb k 4 ≡ z
         → v ≡ toldBy (wordOf k) w (constantValue w (constantOf (shape (wordOf k) .base) t))
@@ -243,15 +230,7 @@ named-sort ts w l h = by (numberOf (token ts 1)) _ (role (numberOf (token ts 1))
 
 const-rule : (k : ℕ) → 4 < k → k < 8 → ruleOf (wordOf k) ≡ rule.Constant
 unfolding ruleOf
-const-rule k l h = by (eqb k 5) (eqb k 6) refl refl
-  where
-    by : (a b : Bool) → eqb k 5 ≡ a → eqb k 6 ≡ b → ruleOf (wordOf k) ≡ rule.Constant
-    by true b e f = rw (eqb-true k 5 e)
-    by false true e f = rw (eqb-true k 6 f)
-    by false false e f = let z : k ≡ 7 = seven (eqb-false k 5 e) (eqb-false k 6 f) in rw z
-      where
-        seven : (k ≡ 5 → ⊥) → (k ≡ 6 → ⊥) → k ≡ 7
-        seven m n = omega arith
+const-rule = constants (λ (j : ℕ). ruleOf (wordOf j) ≡ rule.Constant) refl refl refl
 
 module _ {σ : State} {ls : List (List ℕ)} {names : ℕ} {ids places : List ℕ} (S : Sound ls σ) (N : Named σ ls names ids places)
     (ts : List Token) (F : Formed ts) (x : Line) (R : Read σ ts x) where
@@ -360,11 +339,11 @@ module _ {σ : State} {ls : List (List ℕ)} {names : ℕ} {ids places : List �
       fields : (n m : ℕ)
           → Fields (wordOf k) (x .width) (placedAt (x .ops .b) n) (placedAt (x .ops .c) m) (item ts .first) (item ts .second)
           (constantValue (x .width) (constantOf (shape (wordOf k) .base) (token ts (constantPlace (shape (wordOf k))))))
-          (x .first) (x .second) (x .literal .value)
+          (placedAt (x .ops .b) n) (placedAt (x .ops .c) m) (x .first) (x .second) (x .literal .value)
       fields n m =
           record {
-            b-none = λ h. blank-zero (x .ops .b) n (not-wanted _ σ _ (x .ops .b) (ops .b-is) (le-ltb 1 _ h));
-            c-none = λ h. blank-zero (x .ops .c) m (not-wanted _ σ _ (x .ops .c) (ops .c-is) (le-ltb 2 _ h));
+            b-is = field-none _ 1 _ (λ h. blank-zero (x .ops .b) n (not-wanted _ σ _ (x .ops .b) (ops .b-is) (le-ltb 1 _ h)));
+            c-is = field-none _ 2 _ (λ h. blank-zero (x .ops .c) m (not-wanted _ σ _ (x .ops .c) (ops .c-is) (le-ltb 2 _ h)));
             by-is = λ e. R .first-is ∙ extend-back _ _ _ _ _ _ _ _ rules width-most e;
             low-is = λ e. R .second-is ∙ slice-back _ _ _ _ _ _ _ _ rules a-most e;
             told = constant-told;
@@ -376,7 +355,7 @@ module _ {σ : State} {ls : List (List ℕ)} {names : ℕ} {ids places : List �
           rw (pads .nots-are, pads .a-is, pads .b-is, pads .c-is, ← R .width-is, nots-length (x .ops))
           (ap (λ ns. nots (threeOf (x .ops)) ++ ns)
           (item-own ts (x .width) _ _ _ _
-          ∙ own-spelled (wordOf k) (x .width) _ _ _ _ _ _ _ _ _ _ (fields _ _)
+          ∙ own-spelled (wordOf k) (x .width) _ _ _ _ _ _ _ _ _ _ _ _ (fields _ _)
           ∙ rw (← R .word-is)))
 
       pub standing-is : nodeFor σ (item ts) ≡ standingFor x (length (σ .nodes)) (countRead x)

@@ -15,6 +15,8 @@ use Rattle.operators.specs.Meaning.{flag, choose}
 use Rattle.problem.specs.declared.layout.Node.{Node}
 use Rattle.lines.specs.declared.table.Makes.{Makes}
 use Rattle.lines.specs.declared.table.Makes.the-variants.{Sort, Input, Value, Root}
+use Rattle.spelling.specs.declared.forms.Form.{Form}
+use Rattle.spelling.specs.declared.forms.Form.the-variants as form
 use Rattle.spelling.specs.declared.line.Operand.{Operand}
 use Rattle.lines.specs.Lines.{Token, token, tokens}
 use Rattle.lines.specs.Words.{Word, sort, input, zeros, one, ones, const, constd, consth, inv, conj, disj, xor, add, sub, mul, sll, srl, sra, eq, neq, ult, slt, ite, concat, slice, uext, sext, constraint, other, numberOf, wordOf, shape}
@@ -26,7 +28,8 @@ use Rattle.nodes.specs.Problem.{byKind}
 use Rattle.btor2.specs.Inputs.{inputsOf, variableWidths}
 use Rattle.btor2.specs.inner.Values.{Gives, Kinds, Evaluated, Fitting}
 use Rattle.lines.specs.inner.Told.{idOf}
-use Rattle.spelling.specs.inner.Spelled.{formOf, ownCount}
+use Rattle.spelling.specs.inner.Spelled.{formOf, kindFor, orNodes, subNodes, neqNodes, uextNodes, spelledBy, ownCount}
+use Rattle.spelling.specs.laws.Rule.{own-form}
 use Rattle.btor2.specs.laws.Entry.{known-snoc-new, known-snoc-old, known-snoc-other, at-snoc-new, at-snoc-old, at-snoc-other, at-unknown}
 use Rattle.spelling.specs.laws.Constant.{not-signed}
 use Rattle.btor2.specs.laws.Passed.{Formed, Passes, passes}
@@ -141,48 +144,30 @@ no-append [] ns a b = b
 no-append (m ∷ ms) ns a b = (a .0, no-append ms ns (a .1) b)
 
 -- the last of a line's own nodes has the line's width
+unless-last : (t : Bool) (ms : List Node) (w : ℕ) → getD ms (length ms - 1) (invert 0 0) .width ≡ w
+    → 0 < length (cond t [] ms) → getD (cond t [] ms) (length (cond t [] ms) - 1) (invert 0 0) .width ≡ w
+unless-last true ms w e h = absurd (omega arith)
+unless-last false ms w e h = e
+
+last-spelled : (f : Form) (kind w n a b c p q v : ℕ) → 0 < length (spelledBy f kind w n a b c p q v)
+    → getD (spelledBy f kind w n a b c p q v) (length (spelledBy f kind w n a b c p q v) - 1) (invert 0 0) .width ≡ w
+unfolding spelledBy orNodes subNodes neqNodes uextNodes
+last-spelled form.Nothing kind w n a b c p q v h = absurd (omega arith)
+last-spelled form.Variable kind w n a b c p q v h = refl
+last-spelled form.Constant kind w n a b c p q v h = refl
+last-spelled form.Plain kind w n a b c p q v h = refl
+last-spelled form.Slice kind w n a b c p q v h = refl
+last-spelled form.Or kind w n a b c p q v h = refl
+last-spelled form.Sub kind w n a b c p q v h = refl
+last-spelled form.Neq kind w n a b c p q v h = refl
+last-spelled form.Uext kind w n a b c p q v h = unless-last (eqb p 0) (uextNodes w n a p) w refl h
+last-spelled form.Sext kind w n a b c p q v h = unless-last (eqb p 0) (operator 16 w a 0 0 ∷ []) w refl h
+
 last-width : (k : Word) (w n a b c p q v : ℕ) → 0 < length (own k w n a b c p q v)
     → getD (own k w n a b c p q v) (length (own k w n a b c p q v) - 1) (invert 0 0) .width ≡ w
-unfolding own
-last-width sort w n a b c p q v h = absurd (omega arith)
-last-width input w n a b c p q v h = refl
-last-width zeros w n a b c p q v h = refl
-last-width one w n a b c p q v h = refl
-last-width ones w n a b c p q v h = refl
-last-width const w n a b c p q v h = refl
-last-width constd w n a b c p q v h = refl
-last-width consth w n a b c p q v h = refl
-last-width inv w n a b c p q v h = refl
-last-width conj w n a b c p q v h = refl
-last-width disj w n a b c p q v h = refl
-last-width xor w n a b c p q v h = refl
-last-width add w n a b c p q v h = refl
-last-width sub w n a b c p q v h = refl
-last-width mul w n a b c p q v h = refl
-last-width sll w n a b c p q v h = refl
-last-width srl w n a b c p q v h = refl
-last-width sra w n a b c p q v h = refl
-last-width eq w n a b c p q v h = refl
-last-width neq w n a b c p q v h = refl
-last-width ult w n a b c p q v h = refl
-last-width slt w n a b c p q v h = refl
-last-width ite w n a b c p q v h = refl
-last-width concat w n a b c p q v h = refl
-last-width slice w n a b c p q v h = refl
-last-width uext w n a b c p q v h = by (eqb p 0) h
-  where
-    by : (z : Bool) → 0 < length (cond z [] (constantNode p 0 ∷ operator 12 w n a 0 ∷ []))
-        → getD (cond z [] (constantNode p 0 ∷ operator 12 w n a 0 ∷ [])) (length (cond z [] (constantNode p 0 ∷ operator 12 w n a 0 ∷ [])) - 1) (invert 0 0) .width ≡ w
-    by true h = absurd (omega arith)
-    by false h = refl
-last-width sext w n a b c p q v h = by (eqb p 0) h
-  where
-    by : (z : Bool) → 0 < length (cond z [] (operator 16 w a 0 0 ∷ []))
-        → getD (cond z [] (operator 16 w a 0 0 ∷ [])) (length (cond z [] (operator 16 w a 0 0 ∷ [])) - 1) (invert 0 0) .width ≡ w
-    by true h = absurd (omega arith)
-    by false h = refl
-last-width constraint w n a b c p q v h = absurd (omega arith)
-last-width other w n a b c p q v h = absurd (omega arith)
+last-width k w n a b c p q v h =
+    let e = own-form k w n a b c p q v in
+    rw e (last-spelled (formOf k) (kindFor k) w n a _ _ p q _ (rw e at h))
 
 -- ---- small laws
 

@@ -1,19 +1,15 @@
 -- That the keywords as code groups them are those of the definitions: what must fit, and the nodes.
-use mathlib.Core.Path.{_≡_, refl, sym, ap, _∙_}
-use mathlib.Core.Bool.{Bool, true, false, cond, not, _&&_, _||_}
-use mathlib.Core.List.{List, [], _∷_, _++_}
-use Prim.Native.Nat.{ℕ, zero, suc, _+_, _-_, _^_, _≤_, _<_}
+use mathlib.Core.Path.{_≡_, refl, sym, _∙_}
+use mathlib.Core.Bool.{Bool, true, false, cond, _&&_}
+use Prim.Native.Nat.{ℕ, _+_, _-_, _^_, _≤_, _<_}
 use native.Mathlib.Omega.{arith}
 use lib.Dec.{eqb, ltb, leb}
-use borrow.Author.Tests.{eq-eqb, ne-eqb, lt-ltb, le-ltb, ltb-true, ltb-false, le-leb, lt-leb}
-use Rattle.problem.specs.declared.layout.Node.{Node}
-use Rattle.spelling.specs.declared.forms.Rule.{Rule}
+use borrow.Author.Tests.{ne-eqb, lt-ltb, le-ltb, ltb-true, ltb-false, lt-leb}
 use Rattle.spelling.specs.declared.forms.Rule.the-variants as rule
-use Rattle.spelling.specs.declared.forms.Form.{Form}
 use Rattle.spelling.specs.declared.forms.Form.the-variants as form
 use Rattle.lines.specs.Words.{Word, sort, input, zeros, one, ones, const, constd, consth, inv, conj, disj, xor, add, sub, mul, sll, srl, sra, eq, neq, ult, slt, ite, concat, slice, uext, sext, constraint, other, shape}
 use Rattle.lines.specs.Format.{Constant}
-use Rattle.spelling.specs.Nodes.{fits, own, operator, constantNode, invert}
+use Rattle.spelling.specs.Nodes.{fits, own}
 use Rattle.spelling.specs.inner.Spelled.{ruleOf, ruleFits, short, formOf, kindFor, orNodes, subNodes, neqNodes, uextNodes, spelledBy}
 
 -- ---- short numbers
@@ -145,52 +141,61 @@ toldBy sext w v = v
 toldBy constraint w v = v
 toldBy other w v = v
 
--- the node's fields that a keyword's line does not have are 0
-pub record Fields (k : Word) (w b c p q v p′ q′ v′ : ℕ) : Type 0 where
-  pub b-none : shape k .refs ≤ 1 → b ≡ 0
-  pub c-none : shape k .refs ≤ 2 → c ≡ 0
+-- the field of operand i of so many, which is 0 where a keyword has no such operand
+unfoldable pub fieldOf : ℕ → ℕ → ℕ → ℕ
+fieldOf refs i x = cond (ltb i refs) x 0
+
+pub field-none : (refs i x : ℕ) → (refs ≤ i → x ≡ 0) → x ≡ fieldOf refs i x
+unfolding fieldOf
+field-none refs i x f = by (ltb i refs) refl
+  where
+    by : (t : Bool) → ltb i refs ≡ t → x ≡ cond t x 0
+    by true e = refl
+    by false e = f (ltb-false i refs e)
+
+-- the fields as code has them, where the definition has b, c, p, q and v: only what a keyword's line has bears on its nodes
+pub record Fields (k : Word) (w b c p q v b′ c′ p′ q′ v′ : ℕ) : Type 0 where
+  pub b-is : b′ ≡ fieldOf (shape k .refs) 1 b
+  pub c-is : c′ ≡ fieldOf (shape k .refs) 2 c
   pub by-is : ruleOf k ≡ rule.Extend → p′ ≡ p
   pub low-is : ruleOf k ≡ rule.Slice → q′ ≡ q
   pub told : formOf k ≡ form.Constant → v′ ≡ toldBy k w v
 
-two-fields : (kind w a b c : ℕ) → c ≡ 0 → _≡_ {A = List Node} (operator kind w a b 0 ∷ []) (operator kind w a b c ∷ [])
-two-fields kind w a b c e = rw e
+pub own-spelled : (k : Word) (w n a b c p q v b′ c′ p′ q′ v′ : ℕ) → Fields k w b c p q v b′ c′ p′ q′ v′
+    → own k w n a b c p q v ≡ spelledBy (formOf k) (kindFor k) w n a b′ c′ p′ q′ v′
+unfolding own formOf kindFor spelledBy orNodes subNodes neqNodes uextNodes shape toldBy ruleOf fieldOf
+own-spelled sort w n a b c p q v b′ c′ p′ q′ v′ F = refl
+own-spelled input w n a b c p q v b′ c′ p′ q′ v′ F = refl
+own-spelled zeros w n a b c p q v b′ c′ p′ q′ v′ F = rw (F .told refl)
+own-spelled one w n a b c p q v b′ c′ p′ q′ v′ F = rw (F .told refl)
+own-spelled ones w n a b c p q v b′ c′ p′ q′ v′ F = rw (F .told refl)
+own-spelled const w n a b c p q v b′ c′ p′ q′ v′ F = rw (F .told refl)
+own-spelled constd w n a b c p q v b′ c′ p′ q′ v′ F = rw (F .told refl)
+own-spelled consth w n a b c p q v b′ c′ p′ q′ v′ F = rw (F .told refl)
+own-spelled inv w n a b c p q v b′ c′ p′ q′ v′ F = rw (F .b-is, F .c-is)
+own-spelled conj w n a b c p q v b′ c′ p′ q′ v′ F = rw (F .b-is, F .c-is)
+own-spelled disj w n a b c p q v b′ c′ p′ q′ v′ F = rw (F .b-is)
+own-spelled xor w n a b c p q v b′ c′ p′ q′ v′ F = rw (F .b-is, F .c-is)
+own-spelled add w n a b c p q v b′ c′ p′ q′ v′ F = rw (F .b-is, F .c-is)
+own-spelled sub w n a b c p q v b′ c′ p′ q′ v′ F = rw (F .b-is)
+own-spelled mul w n a b c p q v b′ c′ p′ q′ v′ F = rw (F .b-is, F .c-is)
+own-spelled sll w n a b c p q v b′ c′ p′ q′ v′ F = rw (F .b-is, F .c-is)
+own-spelled srl w n a b c p q v b′ c′ p′ q′ v′ F = rw (F .b-is, F .c-is)
+own-spelled sra w n a b c p q v b′ c′ p′ q′ v′ F = rw (F .b-is, F .c-is)
+own-spelled eq w n a b c p q v b′ c′ p′ q′ v′ F = rw (F .b-is, F .c-is)
+own-spelled neq w n a b c p q v b′ c′ p′ q′ v′ F = rw (F .b-is)
+own-spelled ult w n a b c p q v b′ c′ p′ q′ v′ F = rw (F .b-is, F .c-is)
+own-spelled slt w n a b c p q v b′ c′ p′ q′ v′ F = rw (F .b-is, F .c-is)
+own-spelled ite w n a b c p q v b′ c′ p′ q′ v′ F = rw (F .b-is, F .c-is)
+own-spelled concat w n a b c p q v b′ c′ p′ q′ v′ F = rw (F .b-is, F .c-is)
+own-spelled slice w n a b c p q v b′ c′ p′ q′ v′ F = rw (F .low-is refl)
+own-spelled uext w n a b c p q v b′ c′ p′ q′ v′ F = rw (F .by-is refl)
+own-spelled sext w n a b c p q v b′ c′ p′ q′ v′ F = rw (F .by-is refl)
+own-spelled constraint w n a b c p q v b′ c′ p′ q′ v′ F = refl
+own-spelled other w n a b c p q v b′ c′ p′ q′ v′ F = refl
 
-one-field : (kind w a b c : ℕ) → b ≡ 0 → c ≡ 0 → _≡_ {A = List Node} (operator kind w a 0 0 ∷ []) (operator kind w a b c ∷ [])
-one-field kind w a b c e f = rw (e, f)
-
-a-constant : (w u v : ℕ) → v ≡ u → _≡_ {A = List Node} (constantNode w u ∷ []) (constantNode w v ∷ [])
-a-constant w u v e = rw e
-
-pub own-spelled : (k : Word) (w n a b c p q v p′ q′ v′ : ℕ) → Fields k w b c p q v p′ q′ v′
-    → own k w n a b c p q v ≡ spelledBy (formOf k) (kindFor k) w n a b c p′ q′ v′
-unfolding own formOf kindFor spelledBy orNodes subNodes neqNodes uextNodes shape toldBy ruleOf
-own-spelled sort w n a b c p q v p′ q′ v′ F = refl
-own-spelled input w n a b c p q v p′ q′ v′ F = refl
-own-spelled zeros w n a b c p q v p′ q′ v′ F = a-constant w 0 v′ (F .told refl)
-own-spelled one w n a b c p q v p′ q′ v′ F = a-constant w 1 v′ (F .told refl)
-own-spelled ones w n a b c p q v p′ q′ v′ F = a-constant w (2 ^ w - 1) v′ (F .told refl)
-own-spelled const w n a b c p q v p′ q′ v′ F = a-constant w v v′ (F .told refl)
-own-spelled constd w n a b c p q v p′ q′ v′ F = a-constant w v v′ (F .told refl)
-own-spelled consth w n a b c p q v p′ q′ v′ F = a-constant w v v′ (F .told refl)
-own-spelled inv w n a b c p q v p′ q′ v′ F = one-field 2 w a b c (F .b-none (omega arith)) (F .c-none (omega arith))
-own-spelled conj w n a b c p q v p′ q′ v′ F = two-fields 3 w a b c (F .c-none (omega arith))
-own-spelled disj w n a b c p q v p′ q′ v′ F = refl
-own-spelled xor w n a b c p q v p′ q′ v′ F = two-fields 4 w a b c (F .c-none (omega arith))
-own-spelled add w n a b c p q v p′ q′ v′ F = two-fields 5 w a b c (F .c-none (omega arith))
-own-spelled sub w n a b c p q v p′ q′ v′ F = refl
-own-spelled mul w n a b c p q v p′ q′ v′ F = two-fields 6 w a b c (F .c-none (omega arith))
-own-spelled sll w n a b c p q v p′ q′ v′ F = two-fields 7 w a b c (F .c-none (omega arith))
-own-spelled srl w n a b c p q v p′ q′ v′ F = two-fields 8 w a b c (F .c-none (omega arith))
-own-spelled sra w n a b c p q v p′ q′ v′ F = two-fields 15 w a b c (F .c-none (omega arith))
-own-spelled eq w n a b c p q v p′ q′ v′ F = two-fields 9 w a b c (F .c-none (omega arith))
-own-spelled neq w n a b c p q v p′ q′ v′ F = refl
-own-spelled ult w n a b c p q v p′ q′ v′ F = two-fields 10 w a b c (F .c-none (omega arith))
-own-spelled slt w n a b c p q v p′ q′ v′ F = two-fields 14 w a b c (F .c-none (omega arith))
-own-spelled ite w n a b c p q v p′ q′ v′ F = refl
-own-spelled concat w n a b c p q v p′ q′ v′ F = two-fields 12 w a b c (F .c-none (omega arith))
-own-spelled slice w n a b c p q v p′ q′ v′ F = rw (F .low-is refl)
-own-spelled uext w n a b c p q v p′ q′ v′ F = rw (F .by-is refl)
-own-spelled sext w n a b c p q v p′ q′ v′ F = rw (F .by-is refl)
-own-spelled constraint w n a b c p q v p′ q′ v′ F = refl
-own-spelled other w n a b c p q v p′ q′ v′ F = refl
+-- so that what holds of every form's nodes holds of every keyword's
+pub own-form : (k : Word) (w n a b c p q v : ℕ)
+    → own k w n a b c p q v ≡ spelledBy (formOf k) (kindFor k) w n a (fieldOf (shape k .refs) 1 b) (fieldOf (shape k .refs) 2 c) p q (toldBy k w v)
+own-form k w n a b c p q v =
+    own-spelled k w n a b c p q v _ _ p q _ (record { b-is = refl; c-is = refl; by-is = λ e. refl; low-is = λ e. refl; told = λ e. refl })
