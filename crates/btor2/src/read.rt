@@ -11,7 +11,7 @@ ghost use Rattle.lines.specs.inner.Told.{small};
 ghost use Rattle.btor2.specs.inner.Kept.{Rising, Seen, SortsKept};
 ghost use Rattle.lines.specs.inner.Places.{Marked};
 ghost use Rattle.spelling.specs.inner.Spelled.{short};
-ghost use Rattle.btor2.specs.inner.Read.{operandIf, Operated, Read};
+ghost use Rattle.btor2.specs.inner.Read.{operandIf, Operated, Filled, Read};
 use crate::names::operand_of;
 use crate::names::sort_width;
 use lines::Makes;
@@ -102,6 +102,28 @@ fn operands_of(
     Operands { a, b, c }
 }
 
+// A line of which the keyword, the width and the operands are read: its numbers stand from a place on, and its constant after them.
+fn filled_line(line: &[u8], marks: &[usize], word: u8, width: u8, ops: Operands, middle: u8) -> Line
+    requires { ⌜ Marked (now line) 12 (now marks) × (middle ≤ 6) ⌝ }
+    ensures { λ r. ⌜ Filled (tokens (now (line .entry))) word middle width ops r ⌝ }
+{
+    let first = short_of(token_at(line, marks, middle));
+    let second = short_of(token_at(line, marks, middle + 1));
+    let last = middle + numbers_of(word);
+    let literal = literal_of(word, token_at(line, marks, last), width);
+    let id = small_of(token_at(line, marks, 0));
+    Line {
+        word,
+        id,
+        width,
+        ops,
+        first,
+        second,
+        literal,
+    }
+}
+
+// A line whose tokens are marked, after so many lines of the text.
 pub(crate) fn read_line(
     text: &[u8],
     passed: usize,
@@ -122,9 +144,6 @@ pub(crate) fn read_line(
     let makes = makes_of(word);
     let place = ref_start(makes);
     let refs = refs_of(word);
-    let numbers = numbers_of(word);
-    let middle = place + refs;
-    let last = middle + numbers;
     let sort = sort_named(makes, token_at(line, marks, 2));
     let width = sort_width(text, passed, known, widths, sorts, sort);
     let ops = operands_of(
@@ -139,17 +158,5 @@ pub(crate) fn read_line(
         place,
         refs,
     );
-    let first = short_of(token_at(line, marks, middle));
-    let second = short_of(token_at(line, marks, middle + 1));
-    let literal = literal_of(word, token_at(line, marks, last), width);
-    let id = small_of(token_at(line, marks, 0));
-    Line {
-        word,
-        id,
-        width,
-        ops,
-        first,
-        second,
-        literal,
-    }
+    filled_line(line, marks, word, width, ops, place + refs)
 }
