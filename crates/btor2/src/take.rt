@@ -13,7 +13,7 @@ ghost use Rattle.spelling.specs.Bytes.{allNodes};
 ghost use Rattle.lines.specs.inner.Places.{Marked};
 ghost use Rattle.btor2.specs.inner.Kept.{SortsKept};
 ghost use Rattle.spelling.specs.inner.Spelled.{countRead, newRead};
-ghost use Rattle.btor2.specs.inner.Taking.{unknownRead, sortMissing, operandMissing, rootsAfter, addsName, overfull, NamedIf, RootIf, Fits, Kept, Stepped, Placed};
+ghost use Rattle.btor2.specs.inner.Taking.{unknownRead, sortMissing, operandMissing, rootsAfter, addsName, overfull, NamedIf, RootIf, Fits, Kept, Stepped, Placed, Settled};
 use crate::read::read_line;
 use lines::Makes;
 use lines::format_fault;
@@ -182,6 +182,28 @@ fn place_line(
     })
 }
 
+// A line that is read: refusals 3 and 4, then what it adds.
+fn settle_line(
+    x: Line,
+    counts: Counts,
+    room: usize,
+    bytes: &mut [u8],
+    ids: &mut [u64],
+    places: &mut [u16],
+    rooted: &mut [u16],
+) -> Taken
+    requires { ⌜ Fits counts (now bytes) (now ids) (now places) (now rooted) ⌝ }
+    ensures { λ r. ⌜ Settled x counts room (now (bytes .entry)) (now (ids .entry)) (now (places .entry)) (now (rooted .entry)) (now (bytes .exit)) (now (ids .exit)) (now (places .exit)) (now (rooted .exit)) r ⌝ }
+{
+    if is_unknown(x, counts.last) {
+        return Taken::Fault(3);
+    }
+    if !line_fits(x) {
+        return Taken::Fault(4);
+    }
+    place_line(x, counts, room, bytes, ids, places, rooted)
+}
+
 // A line whose tokens are marked, after so many lines of the text.
 pub(crate) fn take_line(
     text: &[u8],
@@ -221,11 +243,5 @@ pub(crate) fn take_line(
         line,
         marks,
     );
-    if is_unknown(x, counts.last) {
-        return Taken::Fault(3);
-    }
-    if !line_fits(x) {
-        return Taken::Fault(4);
-    }
-    place_line(x, counts, room, bytes, ids, places, rooted)
+    settle_line(x, counts, room, bytes, ids, places, rooted)
 }

@@ -18,7 +18,7 @@ use Rattle.lines.specs.Words.{shape, wordOf}
 use Rattle.btor2.specs.Conversion.{State, lineFault, afterLine}
 use Rattle.spelling.specs.Nodes.{isRoot}
 use Rattle.spelling.specs.Bytes.{allNodes}
-use Rattle.spelling.specs.inner.Spelled.{countRead, newRead, standingFor}
+use Rattle.spelling.specs.inner.Spelled.{countRead, newRead, standingFor, fitsRead}
 use Rattle.btor2.specs.inner.Kept.{Rising, Named}
 use Rattle.btor2.specs.laws.Reached.{Reached}
 
@@ -80,6 +80,20 @@ pub data Placed (x : Line) (n : Counts) (room : ℕ) (bytes ids places rooted by
       → RootIf (n .roots) (rootsWith x n rooted) (standing x n) rooted rooted′
       → Placed x n room bytes ids places rooted bytes′ ids′ places′ rooted′
       (Next (record { last = x .id; nodes = n .nodes + countRead x; roots = rootsWith x n rooted; names = names }))
+
+-- a line that is read: refusals 3 and 4, then what it adds
+pub data Settled (x : Line) (n : Counts) (room : ℕ) (bytes ids places rooted bytes′ ids′ places′ rooted′ : List ℕ) : Taken → Type 0 where
+  unknown : unknownRead x (n .last) ≡ true → Settled x n room bytes ids places rooted bytes′ ids′ places′ rooted′ (Fault 3)
+  misfits :
+      unknownRead x (n .last) ≡ false
+      → fitsRead x ≡ false
+      → Settled x n room bytes ids places rooted bytes′ ids′ places′ rooted′ (Fault 4)
+  placed :
+      {t : Taken}
+      → unknownRead x (n .last) ≡ false
+      → fitsRead x ≡ true
+      → Placed x n room bytes ids places rooted bytes′ ids′ places′ rooted′ t
+      → Settled x n room bytes ids places rooted bytes′ ids′ places′ rooted′ t
 
 -- ---- between two lines
 

@@ -28,7 +28,7 @@ use Rattle.lines.specs.inner.Told.{idOf, findLine, isAlias}
 use Rattle.btor2.specs.inner.Kept.{Rising, Named, Seen}
 use Rattle.spelling.specs.inner.Spelled.{countRead, newRead, standingFor, fitsRead}
 use Rattle.btor2.specs.inner.Read.{Read}
-use Rattle.btor2.specs.inner.Taking.{unknownRead, overfull, rootsAfter, addsName, NamedIf, RootIf, standing, rootsWith, Placed, full, put, Fits, Kept, Stepped, next, fault}
+use Rattle.btor2.specs.inner.Taking.{unknownRead, overfull, rootsAfter, addsName, NamedIf, RootIf, standing, rootsWith, Placed, full, put, Settled, Fits, Kept, Stepped, next, fault}
 use Rattle.btor2.specs.inner.Taking as taking
 use Rattle.btor2.specs.laws.Reached.{Reached, more}
 use Rattle.btor2.specs.laws.Passed.{Formed, formed, or-both}
@@ -96,40 +96,37 @@ module _ {room : ℕ} {σ : State} {ls : List (List ℕ)} {n : Counts} {bytes id
   pub step-format : (m ≡ 0 → ⊥) → {b i p r : List ℕ} → Stepped room σ ls l b i p r (Fault m)
   step-format h = fault (line-format room σ l t q z m e h) h
 
-  module _ (h : m ≡ 0) (x : Line) (R : Read σ (tokens l) x) (b : Bool) (eb : b ≡ unknownRead x (n .last)) where
+  module _ (h : m ≡ 0) (x : Line) (R : Read σ (tokens l) x) where
     abbrev S : Sound ls σ
     S = reached-sound (K .reached)
 
     form : Formed (tokens l)
     form = formed (tokens l) (sym e ∙ h)
 
-    id-fault : idFault σ (item (tokens l)) ≡ b
-    id-fault = sym (unknown-is S (K .named) (tokens l) form x R (n .last) (K .last-is)) ∙ sym eb
+    id-fault : idFault σ (item (tokens l)) ≡ unknownRead x (n .last)
+    id-fault = sym (unknown-is S (K .named) (tokens l) form x R (n .last) (K .last-is))
 
-    pub step-unknown : b ≡ true → {b i p r : List ℕ} → Stepped room σ ls l b i p r (Fault 3)
+    step-unknown : unknownRead x (n .last) ≡ true → {b i p r : List ℕ} → Stepped room σ ls l b i p r (Fault 3)
     step-unknown y = fault (line-unknown room σ l t q z m e h (id-fault ∙ y)) (not-zero 3 (omega arith))
 
-    module _ (u : b ≡ false) (f : Bool) (ef : f ≡ fitsRead x) where
-      misfits : misfit σ (item (tokens l)) ≡ not f
-      misfits = misfit-is S (K .named) (tokens l) form x R (id-fault ∙ u) ∙ ap not (sym ef)
+    module _ (u : unknownRead x (n .last) ≡ false) where
+      misfits : misfit σ (item (tokens l)) ≡ not (fitsRead x)
+      misfits = misfit-is S (K .named) (tokens l) form x R (id-fault ∙ u)
 
-      pub step-misfit : f ≡ false → {b i p r : List ℕ} → Stepped room σ ls l b i p r (Fault 4)
+      step-misfit : fitsRead x ≡ false → {b i p r : List ℕ} → Stepped room σ ls l b i p r (Fault 4)
       step-misfit y = fault (line-misfit room σ l t q z m e h (id-fault ∙ u) (misfits ∙ rw y)) (not-zero 4 (omega arith))
 
       -- ---- what is added
 
-      module _ (y : f ≡ true) where
+      module _ (y : fitsRead x ≡ true) where
         no-unknown : idFault σ (item (tokens l)) ≡ false
         no-unknown = id-fault ∙ u
 
-        fitting : fitsRead x ≡ true
-        fitting = sym ef ∙ y
-
         nodes-new : newNodes σ (item (tokens l)) ≡ newRead x (n .nodes)
-        nodes-new = rw (K .nodes-are) (new-is S (K .named) (tokens l) form x R no-unknown fitting)
+        nodes-new = rw (K .nodes-are) (new-is S (K .named) (tokens l) form x R no-unknown y)
 
         stands : nodeFor σ (item (tokens l)) ≡ standing x n
-        stands = rw (K .nodes-are) (standing-is S (K .named) (tokens l) form x R no-unknown fitting)
+        stands = rw (K .nodes-are) (standing-is S (K .named) (tokens l) form x R no-unknown y)
 
         count-new : length (newNodes σ (item (tokens l))) ≡ countRead x
         count-new = rw nodes-new (new-length x (n .nodes))
@@ -155,7 +152,7 @@ module _ {room : ℕ} {σ : State} {ls : List (List ℕ)} {n : Counts} {bytes id
         fullness : tooMuch room (after σ (item (tokens l))) ≡ overfull room (n .nodes + countRead x) (rootsWith x n rooted)
         fullness = overfull-is room (after σ (item (tokens l))) ∙ rw (nodes-count, roots-count)
 
-        pub step-full : overfull room (n .nodes + countRead x) (rootsWith x n rooted) ≡ true → {b i p r : List ℕ} → Stepped room σ ls l b i p r (Fault 5)
+        step-full : overfull room (n .nodes + countRead x) (rootsWith x n rooted) ≡ true → {b i p r : List ℕ} → Stepped room σ ls l b i p r (Fault 5)
         step-full o =
             fault (line-full room σ l t q z m e h no-unknown (misfits ∙ rw y) (fullness ∙ o)) (not-zero 5 (omega arith))
 
@@ -202,18 +199,22 @@ module _ {room : ℕ} {σ : State} {ls : List (List ℕ)} {n : Counts} {bytes id
               sym (alias-empty σ (tokens l) (rw (← ek) lo) (rw (← ek) hi)) ∙ eq-eqb _ 0 v
 
           -- the names that code then keeps
-          names-stay : (mk : Makes) → mk ≡ item (tokens l) .makes → added σ (item (tokens l)) mk .named ≡ σ .named
-              → NamesThen τ (ls ++ l ∷ []) (x .id) (n .nodes + countRead x) ids places (n .names)
-          unfolding after
-          names-stay mk em qn =
+          names-kept : Named τ (ls ++ l ∷ []) (n .names) ids places → NamesThen τ (ls ++ l ∷ []) (x .id) (n .nodes + countRead x) ids places (n .names)
+          names-kept N =
               record {
-                named = names-same (K .named) S τ l (tokens l) refl above sound-then (ap (λ (k : Makes). added σ (item (tokens l)) k .named) (sym em) ∙ qn);
+                named = N;
                 rising = K .fits .rising;
                 under = λ k h. let v = K .under k h in let w = K .last-is in omega (arith, above, id-of);
                 few = let v = K .fits .names-few in omega arith;
                 ids-long = K .fits .ids-long;
                 places-long = K .fits .places-long;
               }
+
+          names-stay : (mk : Makes) → mk ≡ item (tokens l) .makes → added σ (item (tokens l)) mk .named ≡ σ .named
+              → NamesThen τ (ls ++ l ∷ []) (x .id) (n .nodes + countRead x) ids places (n .names)
+          unfolding after
+          names-stay mk em qn =
+              names-kept (names-same (K .named) S τ l (tokens l) refl above sound-then (ap (λ (k : Makes). added σ (item (tokens l)) k .named) (sym em) ∙ qn))
 
           grown : (mk : Makes) → mk ≡ item (tokens l) .makes
               → added σ (item (tokens l)) mk .named ≡ σ .named ++ (item (tokens l) .id, nodeFor σ (item (tokens l))) ∷ []
@@ -226,16 +227,8 @@ module _ {room : ℕ} {σ : State} {ls : List (List ℕ)} {n : Counts} {bytes id
           names-another : (mk : Makes) → mk ≡ item (tokens l) .makes
               → added σ (item (tokens l)) mk .named ≡ σ .named ++ (item (tokens l) .id, nodeFor σ (item (tokens l))) ∷ [] → isAlias (tokens l) ≡ true
               → NamesThen τ (ls ++ l ∷ []) (x .id) (n .nodes + countRead x) ids places (n .names)
-          unfolding after
           names-another mk em qn a =
-              record {
-                named = names-also (K .named) S τ l (tokens l) refl above sound-then (nodeFor σ (item (tokens l))) (grown mk em qn) a;
-                rising = K .fits .rising;
-                under = λ k h. let v = K .under k h in let w = K .last-is in omega (arith, above, id-of);
-                few = let v = K .fits .names-few in omega arith;
-                ids-long = K .fits .ids-long;
-                places-long = K .fits .places-long;
-              }
+              names-kept (names-also (K .named) S τ l (tokens l) refl above sound-then (nodeFor σ (item (tokens l))) (grown mk em qn) a)
 
           names-new : (mk : Makes) → mk ≡ item (tokens l) .makes
               → added σ (item (tokens l)) mk .named ≡ σ .named ++ (item (tokens l) .id, nodeFor σ (item (tokens l))) ∷ [] → (ltb 0 (countRead x) || ltb (n .names) 1024) ≡ true
@@ -314,7 +307,7 @@ module _ {room : ℕ} {σ : State} {ls : List (List ℕ)} {n : Counts} {bytes id
                     };
               }
 
-        pub step-put : {b i p r : List ℕ} {names : ℕ}
+        step-put : {b i p r : List ℕ} {names : ℕ}
             → overfull room (n .nodes + countRead x) (rootsWith x n rooted) ≡ false
             → (x .width ≤ 64 → b ≡ sets bytes (24 * n .nodes) (allNodes (newRead x (n .nodes))))
             → NamedIf (addsName (shape (wordOf (x .word)) .makes) (countRead x) (n .names)) ids places (n .names) (x .id) (standing x n) i p names
@@ -322,6 +315,11 @@ module _ {room : ℕ} {σ : State} {ls : List (List ℕ)} {n : Counts} {bytes id
             → Stepped room σ ls l b i p r (Next (record { last = x .id; nodes = n .nodes + countRead x; roots = rootsWith x n rooted; names = names }))
         step-put o bw Nm Rt = next (passed o) (kept-then o bw Nm Rt)
 
-        pub step-placed : {b i p r : List ℕ} {s : Taken} → Placed x n room bytes ids places rooted b i p r s → Stepped room σ ls l b i p r s
+        step-placed : {b i p r : List ℕ} {s : Taken} → Placed x n room bytes ids places rooted b i p r s → Stepped room σ ls l b i p r s
         step-placed (full o) = step-full o
         step-placed (put o bw Nm Rt) = step-put o bw Nm Rt
+
+    pub step-settled : {b i p r : List ℕ} {s : Taken} → Settled x n room bytes ids places rooted b i p r s → Stepped room σ ls l b i p r s
+    step-settled (taking.unknown e) = step-unknown e
+    step-settled (taking.misfits u e) = step-misfit u e
+    step-settled (taking.placed u y P) = step-placed u y P
