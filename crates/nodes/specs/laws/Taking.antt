@@ -12,16 +12,15 @@ use mir.Val.{boolByte}
 use lib.ListN.{length, getD}
 use Rattle.problem.specs.declared.layout.Node.{Node}
 use Rattle.problem.specs.Layout.{nodeAt, widthAt}
-use Rattle.operators.specs.Table.{kindOf}
-use Rattle.operators.specs.Meaning.{meaning}
-use Rattle.operators.specs.inner.Ready.{Ready}
+use Rattle.operators.specs.Table.{kindOf, shapeOf}
+use Rattle.operators.specs.Meaning.{meaning, Fit}
 use Rattle.picking.specs.declared.spot.Three.{Three}
 use Rattle.picking.specs.laws.Positions.{few-positions}
 use Rattle.nodes.specs.declared.due.Operands.{Operands}
 use Rattle.nodes.specs.declared.due.Operands.the-variants.{Are, Undue}
 use Rattle.nodes.specs.declared.values.Taken.the-variants.{Value, Nothing}
 use Rattle.nodes.specs.Problem.{oneOf, problem, valueOf}
-use Rattle.nodes.specs.inner.Nodes.{operandCount, standingOp, Evaluable, operandAt, Tells, ReadsMarked, Wanted, Askable, Offered, Offered.offered, Offered.withheld, Takes, Takes.value, Takes.nothing}
+use Rattle.nodes.specs.inner.Nodes.{operandCount, heldIn, Evaluable, operandAt, Tells, ReadsMarked, Wanted, Askable, Offered, Offered.offered, Offered.withheld, Takes, Takes.value, Takes.nothing}
 use Rattle.nodes.specs.laws.Readings.{held-ready, held-value, own-value, constant-value, operands-below}
 
 -- ---- whether a node is to be evaluated
@@ -99,19 +98,31 @@ module _ (marks : List ℕ) (n : Node) (all : Bool) (k : ℕ) where
 
 -- ---- one node
 
--- its operands have values and marks
+-- node i, which was read as m and is of kind k: the operands that the kind has, which are so many, have values and marks
 pub askable :
-    {s vs : List ℕ} {i k : ℕ} {m : Node} (marks : List ℕ)
+    {s vs : List ℕ} {i k count marks : ℕ} {m : Node}
     → m ≡ nodeAt s i
-    → Evaluable s vs i × (problem s .nodes ≤ length marks)
-    → k ≡ operandCount m
-    → Askable m k (length vs) (length marks)
-askable {s} {vs} {i} marks e v q =
+    → Evaluable s vs i × (problem s .nodes ≤ marks)
+    → m .kind ≡ k
+    → count ≡ shapeOf k .operands
+    → Askable m count (length vs) marks
+askable {s} {vs} {i} e v h q =
     record {
-      counted = q;
-      valued = λ j h. omega (arith, operands-below s vs i e (v .0) j h, v .0 .inside, v .0 .places);
-      marked = λ j h. omega (arith, operands-below s vs i e (v .0) j h, v .0 .inside, v .1);
+      counted = rw h q;
+      valued = λ j l. omega (arith, operands-below s vs i e (v .0) j l, v .0 .inside, v .0 .places);
+      marked = λ j l. omega (arith, operands-below s vs i e (v .0) j l, v .0 .inside, v .1);
     }
+
+-- what is offered is what the operands hold, of a node that is to be evaluated
+held :
+    {all : Bool} {marks vs : List ℕ} {m : Node} {x : Three} {r : Operands}
+    → Offered all marks vs m r
+    → r ≡ Are x
+    → (x ≡ heldIn vs m) × Wanted all marks m
+held {all} {marks} {vs} {m} {x} o q = are (rw q at o)
+  where
+    are : Offered all marks vs m (Are x) → (x ≡ heldIn vs m) × Wanted all marks m
+    are (offered w z) = (z, w)
 
 module _ {s vs marks : List ℕ} {i : ℕ} {all : Bool} {m : Node} (e : m ≡ nodeAt s i) where
   -- a variable, or a constant
@@ -124,41 +135,24 @@ module _ {s vs marks : List ℕ} {i : ℕ} {all : Bool} {m : Node} (e : m ≡ no
   pub own-kept : 0 ≡ operandCount m → all ≡ false → Takes s i all vs marks Nothing
   own-kept q a = nothing (λ w. elim w [ inl b ↦ true≢false (sym b ∙ a) | inr r ↦ omega (arith, r .there, rw e at q) ])
 
-  -- an operator
+  -- an operator that is not to be evaluated
   pub kept : {r : Operands} → Offered all marks vs m r → r ≡ Undue → Takes s i all vs marks Nothing
   kept o q = not-due (rw q at o)
     where
       not-due : Offered all marks vs m Undue → Takes s i all vs marks Nothing
       not-due (withheld x) = nothing (λ w. x (rw e w))
 
--- what an arm of the match knows: node i was read as m, and its operands hold x
-pub record Arm (s vs marks : List ℕ) (i : ℕ) (all : Bool) (m : Node) (x : Three) : Type 0 where
-  pub wanted : Wanted all marks (nodeAt s i)
-  pub ready : Ready (standingOp s m) (x .a) (x .b) (x .c)
-  pub gives :
-      meaning (kindOf (m .kind)) (m .width) (widthAt s (m .a)) (widthAt s (m .b)) (m .b) (x .a) (x .b) (x .c) ≡ valueOf (problem s) vs i
+  -- one that is, of kind k: its operands hold x
+  module _ {k : ℕ} {x : Three} {r : Operands} (o : Offered all marks vs m r) (q : r ≡ Are x) (h : m .kind ≡ k) (l : 2 ≤ k) where
+    -- they fit the width rule of the kind
+    pub fits :
+        Evaluable s vs i
+        → Fit (shapeOf k .rule) (m .width) (widthAt s (m .a)) (widthAt s (m .b)) (m .b) (x .a) (x .b) (x .c)
+    fits v = rw (← h, held o q .0, e) (held-ready s vs i v (rw e at (rw (← h) at l)) .fit)
 
-pub arm :
-    {s vs marks : List ℕ} {i : ℕ} {all : Bool} {m : Node} {x : Three} {r : Operands}
-    → m ≡ nodeAt s i
-    → Evaluable s vs i × (problem s .nodes ≤ length marks)
-    → Offered all marks vs m r
-    → r ≡ Are x
-    → 2 ≤ m .kind
-    → Arm s vs marks i all m x
-arm {s} {vs} {marks} {i} {all} {m} {x} e v o q k = is-due (rw q at o)
-  where
-    is-due : Offered all marks vs m (Are x) → Arm s vs marks i all m x
-    is-due (offered w h) =
-        record {
-          wanted = rw e at w;
-          ready = rw (h, e) (held-ready s vs i (v .0) (rw e at k));
-          gives = rw (h, e) (held-value s vs i (rw e at k));
-        }
-
-pub taken :
-    {s vs marks : List ℕ} {i r : ℕ} {all : Bool} {m : Node} {x : Three}
-    → Arm s vs marks i all m x
-    → r ≡ meaning (kindOf (m .kind)) (m .width) (widthAt s (m .a)) (widthAt s (m .b)) (m .b) (x .a) (x .b) (x .c)
-    → Takes s i all vs marks (Value r)
-taken a e = value (a .wanted) (e ∙ a .gives)
+    -- and what the kind means is the value
+    pub taken :
+        {y : ℕ}
+        → y ≡ meaning (kindOf k) (m .width) (widthAt s (m .a)) (widthAt s (m .b)) (m .b) (x .a) (x .b) (x .c)
+        → Takes s i all vs marks (Value y)
+    taken p = value (rw e at (held o q .1)) (p ∙ rw (← h, held o q .0, e) (held-value s vs i (rw e at (rw (← h) at l))))
