@@ -40,6 +40,13 @@ fn is_yes(said: Judged) -> bool
     }
 }
 
+// A refusal by itself.
+fn refused(number: u8, place: u64) -> Judged
+    ensures { λ r. ⌜ r ≡ Judged.Refused (record { number = number; place = place }) ⌝ }
+{
+    Judged::Refused(Fault { number, place })
+}
+
 // A refusal where it is given, after what was said before: what is said first stays.
 fn line(before: Judged, number: u8, given: bool, place: u64) -> Judged
     ensures { λ r. ⌜ r ≡ (before next refuse number place given) ⌝ }
@@ -48,7 +55,7 @@ fn line(before: Judged, number: u8, given: bool, place: u64) -> Judged
         return before;
     }
     if given {
-        return Judged::Refused(Fault { number, place });
+        return refused(number, place);
     }
     Judged::Yes
 }
@@ -118,10 +125,7 @@ fn read_entries(
         }
         let owner = position_of(list, froms, tos, digests, count, name_at(text, entry.name));
         if count <= owner {
-            return Judged::Refused(Fault {
-                number: 32,
-                place: k,
-            });
+            return refused(32, k);
         }
         let w = width_at(problem, ids[owner]);
         let item = item_at(text, entry.sort, entry.value, w);
@@ -297,17 +301,11 @@ pub(crate) fn judge_accepted(
     let count = read_variables(problem, ids);
     let named = read_names(list, froms, tos);
     if named != count {
-        return Judged::Refused(Fault {
-            number: 30,
-            place: 0,
-        });
+        return refused(30, 0);
     }
     read_digests(list, froms, tos, count, digests);
     if any_again(list, froms, tos, digests, count) {
-        return Judged::Refused(Fault {
-            number: 30,
-            place: 0,
-        });
+        return refused(30, 0);
     }
     judge_text(
         problem,

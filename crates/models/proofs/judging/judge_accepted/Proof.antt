@@ -21,8 +21,11 @@ same-length-2 c = search needs
 same-length-3 : tie.Need-same-length-3
 same-length-3 c = search needs
 
+refused-requires : tie.Need-refused-requires
+refused-requires c κs = search needs
+
 returns : tie.Need-returns
-returns c = list-wrong _ _ _ (wrong-count _ _ _ _ _ _ _ (c .before .before .before .before .before .before .before .before .before .before .before .before .before .before .before .before .before .before .before .before .before .before .pre .accepted) (c .before .before .before .before .before .before .before .before .before .before .read-variables .ensures) (c .before .before .before .before .before .read-names .ensures .0) (c .if1 .taken))
+returns c = c .refused .ensures ∙ list-wrong _ _ _ (wrong-count _ _ _ _ _ _ _ (c .before .before .before .before .before .before .before .before .before .before .before .before .before .before .before .before .before .before .before .before .before .before .before .pre .accepted) (c .before .before .before .before .before .before .before .before .before .before .before .read-variables .ensures) (c .before .before .before .before .before .before .read-names .ensures .0) (c .before .if1 .taken))
 
 read-digests-requires : tie.Need-read-digests-requires
 read-digests-requires c κs = (named-of _ _ _ _ _ _ _ (c .before .before .before .before .before .before .before .before .before .before .before .before .before .before .before .before .before .before .before .before .before .before .before .before .before .pre .accepted) (c .before .before .before .before .before .before .before .before .before .before .before .before .before .read-variables .ensures) (c .before .before .before .before .before .before .before .before .read-names .ensures .0) (c .before .before .before .if1 .left), digests-room _ _ _ _ _ _ _ (c .before .before .before .before .before .before .before .before .before .before .before .before .before .before .before .before .before .before .before .before .before .before .before .before .before .pre .accepted) (c .before .before .before .before .before .before .before .before .before .before .before .before .before .read-variables .ensures) (c .before .before .before .before .before .before .before .before .read-names .ensures .0) (now (c .before .before .before .before .before .before .before .before .before .before .before .before .before .before .before .before .before .before .before .before .before .before .before .before .before .args .digests)) (c .before .before .before .before .before .before .before .before .before .before .before .before .before .before .before .before .before .before .before .before .before .before .before .before .before .pre .digests-room))
@@ -42,8 +45,11 @@ same-length-6 c = search needs
 same-length-7 : tie.Need-same-length-7
 same-length-7 c = search needs
 
+refused-requires-2 : tie.Need-refused-requires-2
+refused-requires-2 c κs = search needs
+
 returns-2 : tie.Need-returns-2
-returns-2 c = list-wrong _ _ _ (wrong-twice _ _ _ _ _ _ _ (c .before .before .before .before .before .before .before .before .before .before .before .before .before .before .before .before .before .before .before .before .before .before .before .before .before .before .before .before .before .before .before .before .before .pre .accepted) (c .before .before .before .before .before .before .before .before .before .before .before .before .before .before .before .before .before .before .before .before .before .read-variables .ensures) (c .before .before .before .before .before .before .before .before .before .before .before .before .before .before .before .before .read-names .ensures .0) (c .before .before .before .before .before .before .before .before .before .before .before .if1 .left) _ (c .before .any-again .ensures) (c .if2 .taken))
+returns-2 c = c .refused2 .ensures ∙ list-wrong _ _ _ (wrong-twice _ _ _ _ _ _ _ (c .before .before .before .before .before .before .before .before .before .before .before .before .before .before .before .before .before .before .before .before .before .before .before .before .before .before .before .before .before .before .before .before .before .before .pre .accepted) (c .before .before .before .before .before .before .before .before .before .before .before .before .before .before .before .before .before .before .before .before .before .before .read-variables .ensures) (c .before .before .before .before .before .before .before .before .before .before .before .before .before .before .before .before .before .read-names .ensures .0) (c .before .before .before .before .before .before .before .before .before .before .before .before .if1 .left) _ (c .before .before .any-again .ensures) (c .before .if2 .taken))
 
 judge-text-requires : tie.Need-judge-text-requires
 judge-text-requires c κs = (record { accepted = c .before .before .before .before .before .before .before .before .before .before .before .before .before .before .before .before .before .before .before .before .before .before .before .before .before .before .before .before .before .before .before .before .before .before .before .before .before .before .before .before .pre .accepted; variables = c .before .before .before .before .before .before .before .before .before .before .before .before .before .before .before .before .before .before .before .before .before .before .before .before .before .before .before .before .read-variables .ensures; indexed = c .before .before .before .before .before .before .before .before .before .before .before .before .before .before .read-digests .ensures .0; distinct = sym (c .before .before .before .before .before .before .before .before .any-again .ensures) ∙ c .before .before .before .before .before .before .before .if2 .left }, c .before .before .before .before .before .before .before .before .before .before .before .before .before .before .before .before .before .before .before .before .before .before .before .before .before .before .before .before .before .before .before .before .before .before .before .before .before .before .before .before .pre .no-marks, c .before .before .before .before .before .before .before .before .before .before .before .before .before .before .before .before .before .before .before .before .before .before .before .before .before .before .before .before .before .before .before .before .before .before .before .before .before .before .before .before .pre .no-words, c .before .before .before .before .before .before .before .before .before .before .before .before .before .before .before .before .before .before .before .before .before .before .before .before .before .before .before .before .before .before .before .before .before .before .before .before .before .before .before .before .pre .no-values)
@@ -78,12 +84,14 @@ judge-accepted-spec =
     (tie.spec
     read-variables-requires
     read-names-requires
+    refused-requires
     same-length
     same-length-2
     same-length-3
     returns
     read-digests-requires
     any-again-requires
+    refused-requires-2
     same-length-4
     same-length-5
     same-length-6

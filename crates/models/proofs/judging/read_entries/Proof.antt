@@ -47,13 +47,16 @@ position-of-requires : tie.Need-position-of-requires Inv-loop μ-loop
 position-of-requires c κs = c .before .before .before .before .before .before .before .before .before .before .before .before .before .before .before .pre .0 .indexed
 
 same-length-3 : tie.Need-same-length-3 Inv-loop μ-loop
-same-length-3 c = c .before .before .before .before .before .before .loop .inv .0
+same-length-3 c = c .before .before .before .before .before .before .before .loop .inv .0
 
 same-length-4 : tie.Need-same-length-4 Inv-loop μ-loop
-same-length-4 c = c .before .before .before .before .before .before .loop .inv .1
+same-length-4 c = c .before .before .before .before .before .before .before .loop .inv .1
+
+refused-requires : tie.Need-refused-requires Inv-loop μ-loop
+refused-requires c κs = search needs
 
 returns-2 : tie.Need-returns-2 Inv-loop μ-loop
-returns-2 c = reading-unknown _ _ _ _ _ (c .before .before .before .before .before .before .loop .at) (c .before .before .before .before .before .before .loop .k) _ (c .before .before .before .before .before .before .loop .again) (c .before .before .before .before .before .before .loop .unfit) (c .before .before .before .before .before .before .loop .inv .6) (c .before .before .before .before .before .entry-at .ensures .size) (c .before .before .before .if1 .left) _ (c .before .position-of .result) _ (c .before .before .before .before .before .before .before .before .before .before .before .before .before .before .before .before .before .pre .0 .indexed .named .all) (entry-name _ _ _ (c .before .before .before .before .before .entry-at .ensures .parts (c .before .before .before .if1 .left)) _ (c .before .before .name-at .ensures)) (c .before .position-of .ensures) _ _ (c .if2 .taken)
+returns-2 c = rw (c .refused .ensures) (reading-unknown _ _ _ _ _ (c .before .before .before .before .before .before .before .loop .at) (c .before .before .before .before .before .before .before .loop .k) _ (c .before .before .before .before .before .before .before .loop .again) (c .before .before .before .before .before .before .before .loop .unfit) (c .before .before .before .before .before .before .before .loop .inv .6) (c .before .before .before .before .before .before .entry-at .ensures .size) (c .before .before .before .before .if1 .left) _ (c .before .before .position-of .result) _ (c .before .before .before .before .before .before .before .before .before .before .before .before .before .before .before .before .before .before .pre .0 .indexed .named .all) (entry-name _ _ _ (c .before .before .before .before .before .before .entry-at .ensures .parts (c .before .before .before .before .if1 .left)) _ (c .before .before .before .name-at .ensures)) (c .before .before .position-of .ensures) _ _ (c .before .if2 .taken))
 
 mul-width-at : tie.Need-mul-width-at Inv-loop μ-loop
 mul-width-at c = omega arith
@@ -109,6 +112,7 @@ read-entries-spec =
     returns
     name-at-requires
     position-of-requires
+    refused-requires
     same-length-3
     same-length-4
     returns-2
