@@ -1,4 +1,4 @@
--- `search::moves::finish_move` meets its contract.
+-- `moves::finish_move` meets its contract.
 use mathlib.Core.Path.{refl}
 use Rattle.moves.specs.inner.Moves.{Finishes.sets-one, Finishes.sets-none}
 use Rattle.moves.proofs.Turns.{place-lt, changed, renewed-long}

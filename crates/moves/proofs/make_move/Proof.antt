@@ -1,4 +1,4 @@
--- `search::moves::make_move` meets its contract.
+-- `moves::make_move` meets its contract.
 use Prim.Native.Nat.{_<_}
 use lib.ListN.{length}
 use native.Mathlib.Omega.{arith}

@@ -1,4 +1,4 @@
--- `search::moves::walk` meets its contract.
+-- `moves::walk` meets its contract.
 use native.Mathlib.Omega.{arith}
 use borrow.Author.Needs.{needs}
 use Rattle.nodes.specs.laws.Readings.{node-there}

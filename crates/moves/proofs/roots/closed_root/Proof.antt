@@ -1,4 +1,4 @@
--- `search::pairs::closed_root` meets its contract.
+-- `moves::roots::closed_root` meets its contract.
 use mathlib.Core.Path.{_≡_, sym, _∙_}
 use Prim.Native.Nat.{ℕ, _≤_, _<_, _-_}
 use native.Mathlib.Omega.{arith}

@@ -1,4 +1,4 @@
--- `search::moves::nth_unsatisfied` meets its contract.
+-- `moves::roots::nth_unsatisfied` meets its contract.
 use mathlib.Core.Path.{_≡_, sym, _∙_}
 use mathlib.Core.Logic.{⊎-elim}
 use Prim.Native.Nat.{_≤_, _-_}

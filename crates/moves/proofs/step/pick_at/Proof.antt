@@ -1,4 +1,4 @@
--- `search::step::pick_at` meets its contract.
+-- `moves::step::pick_at` meets its contract.
 use mathlib.Core.Logic.{_⊎_, inl, inr, ⊎-elim}
 use native.Mathlib.Omega.{arith}
 use Rattle.moves.specs.Step.{Follows.inverse}

@@ -1,4 +1,4 @@
--- `search::step::step` meets its contract.
+-- `moves::step::step` meets its contract.
 use native.Mathlib.Omega.{arith}
 use borrow.Author.Needs.{needs}
 use Rattle.moves.proofs.Steps.{few, few-listed, step-none, chosen-in, step-below, step-followed}

@@ -1,4 +1,4 @@
--- `search::operands::held` meets its contract.
+-- `nodes::operands::held` meets its contract.
 use Rattle.nodes.specs.Problem.{three}
 use Rattle.nodes.specs.inner.Nodes.{heldIn}
 use Rattle.nodes.specs.laws.Readings.{there-below}

@@ -1,4 +1,4 @@
--- `search::operands::held_if` meets its contract.
+-- `nodes::operands::held_if` meets its contract.
 use borrow.Author.Needs.{needs}
 use Rattle.nodes.proofs.operands.held_if.Statement.{statement}
 use Rattle.nodes.proofs.operands.held_if.Tie as tie

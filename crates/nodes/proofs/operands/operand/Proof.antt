@@ -1,4 +1,4 @@
--- `search::operands::operand` meets its contract.
+-- `nodes::operands::operand` meets its contract.
 use Rattle.nodes.specs.inner.Nodes.{ids}
 use Rattle.nodes.specs.laws.Readings.{at-third}
 use borrow.Author.Needs.{needs}

@@ -1,4 +1,4 @@
--- `search::operands::operator` meets its contract.
+-- `nodes::operands::operator` meets its contract.
 use Rattle.nodes.specs.inner.Nodes.{operatorIn}
 use borrow.Author.Needs.{needs}
 use Rattle.nodes.proofs.operands.operator.Statement.{statement}

@@ -1,4 +1,4 @@
--- `search::operands::width_if` meets its contract.
+-- `nodes::operands::width_if` meets its contract.
 use borrow.Author.Needs.{needs}
 use Rattle.nodes.proofs.operands.width_if.Statement.{statement}
 use Rattle.nodes.proofs.operands.width_if.Tie as tie

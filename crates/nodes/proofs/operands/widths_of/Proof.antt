@@ -1,4 +1,4 @@
--- `search::operands::widths_of` meets its contract.
+-- `nodes::operands::widths_of` meets its contract.
 use Rattle.nodes.specs.inner.Nodes.{widthsIn}
 use borrow.Author.Needs.{needs}
 use Rattle.nodes.proofs.operands.widths_of.Statement.{statement}

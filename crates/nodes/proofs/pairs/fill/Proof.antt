@@ -1,4 +1,4 @@
--- `search::pairs::fill` meets its contract.
+-- `nodes::pairs::fill` meets its contract.
 use mathlib.Core.Path.{_≡_, sym, ap, _∙_}
 use Prim.Native.Nat.{_≤_, _-_}
 use native.Mathlib.Omega.{arith}

@@ -1,4 +1,4 @@
--- `search::pairs::inner_pair` meets its contract.
+-- `nodes::pairs::inner_pair` meets its contract.
 use mathlib.Core.Path.{_∙_}
 use borrow.Author.Needs.{needs}
 use Rattle.nodes.proofs.pairs.inner_pair.Statement.{statement}

@@ -1,4 +1,4 @@
--- `search::pairs::pair_at` meets its contract.
+-- `nodes::pairs::pair_at` meets its contract.
 use mathlib.Core.Path.{_∙_}
 use Prim.Native.Nat.{_≤_, _<_}
 use native.Mathlib.Omega.{arith}

@@ -1,4 +1,4 @@
--- `search::spot::spot_of` meets its contract.
+-- `nodes::spot::spot_of` meets its contract.
 use Rattle.nodes.specs.inner.Nodes.{spotIn}
 use borrow.Author.Needs.{needs}
 use Rattle.nodes.proofs.spot.spot_of.Statement.{statement}
