@@ -1,5 +1,7 @@
 // Words of up to 64 bits: their bits, ternary words, the least value of a set from a proposal on, and sets of ids as marks.
 // Nothing here knows of operators. Callers write words::cut, words::Found: the modules are for the reader.
+#![tactic(auto)]
+
 mod bits;
 mod found;
 mod interval;

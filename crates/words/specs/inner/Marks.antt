@@ -1,5 +1,5 @@
 -- A set of ids as the bits of words of 64: what is marked, one mark more, one less, and the lowest mark from an id on.
-use Rattle.std.specs.Prelude.{◌≡◌, ℕ, ◌/◌, ◌%◌, ◌^◌, ◌<◌, ◌≤◌, ◌⊎◌, List, length, set, ◌≢◌, bit_or, bit_xor, slice_index, slice_set}
+use Rattle.std.specs.Prelude.{◌≡◌, ℕ, ◌/◌, ◌%◌, ◌^◌, ◌<◌, ◌≤◌, ◌⊎◌, List, length, ◌≢◌, bit_or, bit_xor, slice_index, slice_set}
 use Rattle.words.specs.Bits.{bit}
 
 -- the bit of id n: of the words l, in the one numbered n div 64, at place n modulo 64

@@ -6,7 +6,6 @@ use Rattle.std.proofs.Math.Logic.{inl, inr}
 use native.Mathlib.Omega.{arith}
 use Rattle.std.proofs.Math.Decide.{ℕ_discrete, dec_lt}
 use Rattle.std.proofs.Math.ListN.{length-set}
-use Rattle.std.specs.Int.Bits.{bit_or, bit_xor}
 use Rattle.words.specs.Bits.{bit}
 use Rattle.words.specs.laws.Bits.{bit_lt, bit_of_or, bit_of_xor, bit_high, bit_shl, bit_shl_low, bit_shr, bit_cut, bit_of_zero, bit_set_lt}
 use Rattle.words.specs.inner.Words.{Tail}
