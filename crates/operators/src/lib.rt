@@ -1,5 +1,7 @@
 // The operators of documents 01 and 02: the table of kinds, and what each operator means.
 // Callers write operators::sum, operators::Op: the modules are for the reader.
+#![tactic(auto)]
+
 mod meaning;
 mod signed;
 mod table;

@@ -3,7 +3,7 @@ ghost use Rattle.std.specs.Prelude.{◌≡◌, ◌+◌, ◌-◌, ◌*◌, ◌/�
 ghost use Rattle.operators.specs.Meaning.{quotient as quotient_of};
 
 // An operator in its place: its kind, its node's width, the widths of operands a and b, and its lowest bit (extract).
-#[derive(Drop)]
+#[derive(Clone, Copy)]
 pub struct Op {
     pub kind: u8,
     pub width: u32,

@@ -3,7 +3,7 @@ ghost use Rattle.std.specs.Prelude.{◌≡◌};
 ghost use Rattle.operators.specs.Table.{shape_of, rule_holds};
 
 // The width rules of the table's last column.
-#[derive(Drop)]
+#[derive(Clone, Copy)]
 pub enum Rule {
     // variable, constant: none
     Free,
@@ -26,7 +26,7 @@ pub enum Rule {
 }
 
 // What a kind uses: so many operands, so many of the fields a, b, c, and its width rule.
-#[derive(Drop)]
+#[derive(Clone, Copy)]
 pub struct Shape {
     pub operands: u8,
     pub fields: u8,

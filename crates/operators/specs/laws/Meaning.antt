@@ -1,6 +1,6 @@
 -- Laws of the operators' meaning, over the width: the value is of the node's width, and only the operands that the kind has bear on it.
 use Rattle.std.specs.Prelude.{◌≡◌, ℕ, zero, suc, ◌+◌, ◌*◌, ◌/◌, ◌^◌, ◌<◌, ◌≤◌, Bool, true, false, ◌==◌, nat_le, nat_lt, refl}
-use Rattle.std.proofs.Common.{sym, ap, ap₂, ◌∙◌, le_of_lt, mod-lt, lt_of_le_of_lt, arith, pow_pos, pow_mono, pow-add, leb-true}
+use Rattle.std.proofs.Common.{sym, ap₂, ◌∙◌, le_of_lt, mod-lt, lt_of_le_of_lt, arith, pow_pos, pow_mono, pow-add, leb-true}
 use Rattle.std.proofs.lemmas.Bool.{false≢true}
 use Rattle.std.proofs.Math.Arith.{digits_lt}
 use Rattle.std.specs.Int.Bits.{and_lt}
