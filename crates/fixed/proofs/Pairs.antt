@@ -1,11 +1,6 @@
 -- The pairs that the code makes are those of the definitions, from what it was told of their parts.
-use mathlib.Core.Path.{◌≡◌, refl, sym, ap, ap₂, ◌∙◌}
-use mathlib.Core.Bool.{Bool, true, false}
-use Prim.Native.Nat.{ℕ, zero, suc, ◌+◌, ◌-◌, ◌%◌, ◌^◌, ◌≤◌, ◌<◌, min}
-use native.Mathlib.Nat.{le_trans, mod-lt}
-use native.Mathlib.Omega.{arith}
+use Rattle.std.proofs.Common.{◌≡◌, refl, sym, ap, ap₂, ◌∙◌, Bool, true, false, ℕ, zero, suc, ◌+◌, ◌-◌, ◌%◌, ◌^◌, ◌≤◌, ◌<◌, min, le_trans, mod-lt, arith, pow_pos, pow_mono}
 use lib.Count.{count_trailing_zeros}
-use lib.Pow.{pow_pos, pow_mono}
 use Rattle.words.specs.laws.Zeros.{trailing_min}
 use Rattle.operators.specs.Meaning.{signed_less, quotient}
 use Rattle.operators.specs.inner.Ready.{Used}

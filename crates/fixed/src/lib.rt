@@ -1,4 +1,6 @@
 // The fixed bits of one node (documents 01 and 02), from its operands' pairs.
+#![tactic(auto)]
+
 ghost use Rattle.std.specs.Prelude.{◌≡◌, ◌/◌, ◌%◌, ◌^◌, ◌≤◌, ◌<◌};
 ghost use Rattle.operators.specs.Table.{kind_of};
 ghost use Rattle.operators.specs.Meaning.{signed_less};
@@ -10,7 +12,7 @@ use operators::{
 };
 
 // A ternary word: lo has no bit that hi lacks, and a bit is fixed where the two agree.
-#[derive(Drop)]
+#[derive(Clone, Copy)]
 pub struct Pair {
     pub lo: u64,
     pub hi: u64,
