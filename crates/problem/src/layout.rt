@@ -3,7 +3,7 @@ ghost use Rattle.std.specs.Prelude.{◌≡◌, ◌+◌, ◌*◌, ◌≤◌, leng
 ghost use Rattle.problem.specs.Layout.{le16, le32, le64, version, node_count, root_count, node_of, node_at, width_at, root_at};
 
 // A node's record.
-#[derive(Drop)]
+#[derive(Clone, Copy)]
 pub struct Node {
     pub kind: u8,
     pub width: u8,

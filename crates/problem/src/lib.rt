@@ -1,5 +1,7 @@
 // Reading a problem, and the problem check: refusals 1 to 13 of document 01 and 16 and 20 of document 02.
 // Callers write problem::check, problem::node_at: the modules are for the reader.
+#![tactic(auto)]
+
 ghost use Rattle.std.specs.Prelude.{◌≡◌};
 ghost use Rattle.problem.specs.Refusals.{checked};
 
@@ -15,14 +17,14 @@ use refusals::{nodes_fault, roots_fault};
 use repeats::repeats_fault;
 
 // A refusal's number, and its place: a node's id, a root's position, or 0.
-#[derive(Drop)]
+#[derive(Clone, Copy)]
 pub struct Refusal {
     pub number: u8,
     pub place: u16,
 }
 
 // The answer of the problem check.
-#[derive(Drop)]
+#[derive(Clone, Copy)]
 pub enum Checked {
     Accepted,
     Refused(Refusal),
