@@ -1,5 +1,7 @@
 // Boxes and sets of words, and the pick from one. A contract here settles which box is made, or which value is picked; how a set
 // is cut into boxes is for those who make it.
+#![tactic(auto)]
+
 ghost use Rattle.std.specs.Prelude.{◌≡◌, ℕ, ◌+◌, ◌*◌, ◌^◌, ◌≤◌, ◌<◌};
 ghost use Rattle.words.specs.Agree.{Within};
 ghost use Rattle.words.specs.Pick.{FirstFrom, Picked};
@@ -12,7 +14,7 @@ pub use unions::{Row, Union};
 use words::Found;
 
 // A ternary word met with an interval: the values that agree with lo, hi and lie in least..=most.
-#[derive(Drop)]
+#[derive(Clone, Copy)]
 pub struct Box {
     pub lo: u64,
     pub hi: u64,
@@ -22,7 +24,7 @@ pub struct Box {
 
 // A set of words: none, a box, several boxes, or a single word if it is there, which is asked together with whether it
 // agrees.
-#[derive(Drop)]
+#[derive(Clone, Copy)]
 pub enum Set {
     Empty,
     Only(u64, bool),

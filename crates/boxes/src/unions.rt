@@ -8,7 +8,7 @@ use crate::{Box, end_at, first_in_box, low_are, meet, mirror, shifted};
 use words::Found;
 
 // Rows of boxes, by their place j.
-#[derive(Drop)]
+#[derive(Clone, Copy)]
 pub enum Row {
     // What a shift by j takes to t: to the left, modulo 2^w (t, w), or to the right (t).
     Left(u64, u32),
@@ -19,7 +19,7 @@ pub enum Row {
     Ends(u64, u64),
 }
 
-#[derive(Drop)]
+#[derive(Clone, Copy)]
 pub enum Union {
     // All but one value.
     Except(u64),
