@@ -1,4 +1,6 @@
 // Picking at one node taken out of a problem: inverse and consistent values.
+#![tactic(auto)]
+
 mod arithmetic;
 mod basic;
 mod bitwise;

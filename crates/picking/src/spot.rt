@@ -3,7 +3,7 @@ ghost use Rattle.std.specs.Prelude.{◌≡◌, ◌-◌};
 ghost use Rattle.picking.specs.Spot.{at as standing};
 
 // What stands at the positions a, b and c of a node.
-#[derive(Drop)]
+#[derive(Clone, Copy)]
 pub struct Three {
     pub a: u64,
     pub b: u64,
@@ -12,7 +12,7 @@ pub struct Three {
 
 // A node's kind, width and lowest bit (extract's field b), and of each position the operand's width, its pair and its
 // current value.
-#[derive(Drop)]
+#[derive(Clone, Copy)]
 pub struct Spot {
     pub kind: u8,
     pub width: u32,

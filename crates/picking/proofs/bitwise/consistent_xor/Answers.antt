@@ -1,0 +1,6 @@
+-- Bit by bit as the pair has it, turned over where t has a bit.
+use Rattle.picking.proofs.BitwiseLaws.{some_xor_by}
+use Rattle.picking.proofs.bitwise.consistent_xor.Goals as goal
+
+pub returns : goal.returns
+returns c = some_xor_by c.args.l c.args.h c.args.t c.requires c.agreeing.ensures
