@@ -1,5 +1,7 @@
 // Whether a position of one node taken out of a problem is essential: no values of the others that agree give t while it keeps its
 // current value.
+#![tactic(auto)]
+
 ghost use Rattle.std.specs.Prelude.{◌≡◌, ◌^◌, ◌≤◌, ◌<◌};
 ghost use Rattle.words.specs.inner.Decides.{Decides};
 ghost use Rattle.picking.specs.Spot.{positions, value, Fair, Essential, Asked};
