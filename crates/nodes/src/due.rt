@@ -9,7 +9,7 @@ use picking::Three;
 use problem::Node;
 
 // What stands at a node's operands, if it is to be evaluated.
-#[derive(Drop)]
+#[derive(Clone, Copy)]
 pub(crate) enum Operands {
     Are(Three),
     Undue,

@@ -1,5 +1,7 @@
 // One node of an accepted problem as a run sees it: what its operands hold, the value that it takes if it is to be evaluated, its
 // fixed bits, and the node as picking sees it.
+#![tactic(auto)]
+
 mod due;
 mod operands;
 mod pairs;

@@ -12,7 +12,7 @@ use picking::Three;
 use problem::{Node, width_at};
 
 // The widths of what the positions a, b and c hold.
-#[derive(Drop)]
+#[derive(Clone, Copy)]
 pub(crate) struct Widths {
     pub a: u8,
     pub b: u8,

@@ -8,7 +8,7 @@ use crate::due::{Operands, operands_due};
 use problem::node_at;
 
 // What a node's place takes.
-#[derive(Drop)]
+#[derive(Clone, Copy)]
 pub enum Taken {
     Value(u64),
     Nothing,
