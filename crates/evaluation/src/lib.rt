@@ -1,4 +1,6 @@
 // Evaluation of all nodes, who reads each node, and evaluation of what is above a changed variable.
+#![tactic(auto)]
+
 mod above;
 mod pass;
 mod readers;

@@ -29,17 +29,17 @@ chain_first (link {at} {i} {j} e b c) x = (omega arith, omega arith)
 
 -- ---- links from a slot on
 
-pub chain_of : {q at : ℕ} {slots l : List ℕ} → ChainFrom q slots at l → Chain slots at l
+pub chain_of : {q : ℕ} {slots : List ℕ} {at : ℕ} {l : List ℕ} → ChainFrom q slots at l → Chain slots at l
 chain_of (ends_from e) = ends e
 chain_of (link_from e b h c) = link e b (chain_of c)
 
-pub chain_wider : {q p at : ℕ} {slots l : List ℕ} → p ≤ q → ChainFrom q slots at l → ChainFrom p slots at l
+pub chain_wider : {q p : ℕ} {slots : List ℕ} {at : ℕ} {l : List ℕ} → p ≤ q → ChainFrom q slots at l → ChainFrom p slots at l
 chain_wider w (ends_from e) = ends_from e
 chain_wider w (link_from e b h c) = link_from e b (omega arith) (chain_wider w c)
 
 -- slot p is none of them
 chain_kept :
-    {q at : ℕ} {slots l : List ℕ} (p x : ℕ)
+    {q : ℕ} {slots : List ℕ} {at : ℕ} {l : List ℕ} (p x : ℕ)
     → ((i j : ℕ) → j < 3 → q ≤ 4 * i + 1 + j → 4 * i + 1 + j ≡ p → ⊥)
     → ChainFrom q slots at l
     → ChainFrom q (set slots p x) at l

@@ -30,7 +30,7 @@ lists_least {A} (skip {n} r x) k h a =
     elim (ℕ_discrete k n) [ yes e ↦ absurd (x (subst A e a)) | no y ↦ lists_least r k (omega arith) a ]
 
 -- the members below k, and those from k on
-pub lists_from : {A : ℕ → Type 0} {k n : ℕ} (before : List ℕ) {l : List ℕ} → Lists A k before → ListsFrom A n k l → Lists A n (before ++ l)
+pub lists_from : {A : ℕ → Type 0} {n k : ℕ} (before : List ℕ) {l : List ℕ} → Lists A k before → ListsFrom A n k l → Lists A n (before ++ l)
 lists_from before r none = rw (append-nil before) r
 lists_from before r (keep_from {k} {l} a t) = rw (append_assoc before (k ∷ []) l) at (lists_from (before ++ (k ∷ [])) (keep r a) t)
 lists_from before r (skip_from x t) = lists_from before (skip r x) t
