@@ -1,4 +1,6 @@
 // Moves of document 01: from an unsatisfied root entry down to a variable, step by step, and up again to all that lies above it.
+#![tactic(auto)]
+
 ghost use Rattle.std.specs.Prelude.{◌+◌, drop, length};
 ghost use Rattle.nodes.specs.Problem.{problem};
 ghost use Rattle.evaluation.specs.inner.Readers.{Indexed};
@@ -18,7 +20,7 @@ use words::Found;
 
 // How a move ends: a variable, the value that it takes, the steps made so far in the run, the next place on the tape; or
 // blocked, with these two; or the tape cannot serve a draw whole.
-#[derive(Drop)]
+#[derive(Clone, Copy)]
 enum Stop {
     Sets(u16, u64, u64, usize),
     Stuck(u64, usize),
@@ -27,7 +29,7 @@ enum Stop {
 
 // What a move comes to: the nodes evaluated after it, the steps made so far in the run and the next place on the tape; or the
 // tape cannot serve it, and it is unfinished.
-#[derive(Drop)]
+#[derive(Clone, Copy)]
 pub enum Turn {
     Finished(u64, u64, usize),
     Unfinished,

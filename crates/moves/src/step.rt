@@ -13,7 +13,7 @@ use words::Found;
 const PLACES: u64 = 0x8000_6840_1210;
 
 // What a step comes to: the position that is followed, and the pick there.
-#[derive(Drop)]
+#[derive(Clone, Copy)]
 pub(crate) struct Way {
     pub position: u32,
     pub found: Found,
