@@ -1,4 +1,6 @@
 // The run of document 01, an entry point: move after move, from the start to a verdict.
+#![tactic(auto)]
+
 ghost use Rattle.std.specs.Prelude.{◌≡◌, ◌+◌, ◌*◌};
 ghost use Rattle.nodes.specs.inner.Nodes.{Fills};
 ghost use Rattle.evaluation.specs.inner.Readers.{Indexed};
@@ -18,7 +20,7 @@ use problem::{Checked, Refusal, node_count};
 use starts::{lent_fault, starts_fault};
 
 // How a run that is not refused ends.
-#[derive(Drop)]
+#[derive(Clone, Copy)]
 pub enum Verdict {
     Model,
     Spent,
@@ -27,14 +29,14 @@ pub enum Verdict {
 }
 
 // A refusal with its number and place, or a verdict.
-#[derive(Drop)]
+#[derive(Clone, Copy)]
 pub enum Outcome {
     Refused(Refusal),
     Settled(Verdict),
 }
 
 // What a run answers: its counts beside its outcome.
-#[derive(Drop)]
+#[derive(Clone, Copy)]
 pub struct Answer {
     pub moves: u64,
     pub steps: u64,
