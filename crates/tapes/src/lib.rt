@@ -1,4 +1,6 @@
 // How long a tape a problem needs, an entry point: H, and the words for a budget.
+#![tactic(auto)]
+
 ghost use Rattle.tapes.specs.Needed.{Needed};
 
 mod heights;
@@ -7,7 +9,7 @@ use heights::{fill_heights, longest_chain, words_for};
 use problem::{Checked, check};
 
 // What a problem asks of a tape: H, the words for a budget, and what the problem check found.
-#[derive(Drop)]
+#[derive(Clone, Copy)]
 pub struct TapeNeed {
     pub h: u64,
     pub words: u64,
