@@ -1,5 +1,7 @@
 // Many starts of one problem, an entry point: refusals of the call, and each start's run on its own places and its own stretch of
 // the tape.
+#![tactic(auto)]
+
 ghost use Rattle.std.specs.Prelude.{◌≡◌, ◌≤◌, ltb, length};
 ghost use Rattle.problem.specs.Refusals.{◌then◌};
 ghost use Rattle.batches.specs.Batch.{sum, tape_fault, room_fault, batch_refusals, Starts, Batch};
