@@ -1,4 +1,6 @@
 // What every reader of text shares: runs of bytes of a class, whether two pieces of text are the same, and numbers of any length.
+#![tactic(auto)]
+
 mod numbers;
 mod runs;
 

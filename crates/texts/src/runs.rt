@@ -3,7 +3,7 @@ ghost use Rattle.std.specs.Prelude.{◌≡◌, ◌+◌, ◌≤◌, length, drop,
 ghost use Rattle.texts.specs.Runs.{is_blank, is_white, is_symbol_byte, is_in, length_of_run, equal};
 
 // The classes that readers run over.
-#[derive(Drop)]
+#[derive(Clone, Copy)]
 pub enum Class {
     // All but a line feed.
     Line,

@@ -1,5 +1,5 @@
 -- Laws of digits and of the numbers that they say.
-use Rattle.std.specs.Prelude.{◌≡◌, refl, Bool, true, false, cond, not, ◌&&◌, List, [], ◌∷◌, ℕ, suc, ◌+◌, ◌-◌, ◌*◌, ◌/◌, ◌^◌, ◌≤◌, ◌<◌, ltb, leb, eqb, length, get_or, drop}
+use Rattle.std.specs.Prelude.{◌≡◌, refl, Bool, true, false, cond, not, ◌&&◌, List, [], ◌∷◌, ℕ, suc, ◌+◌, ◌-◌, ◌*◌, ◌/◌, ◌^◌, ◌≤◌, ◌<◌, ltb, leb, eqb, length, get_or, drop, zero}
 use Rattle.std.proofs.Common.{sym, ◌∙◌, arith, add-one, mul_comm, mul-le-mul_right, le-div_iff_mul-le, div-lt_iff_lt-mul, drop_of_length-le, drop-cons, leb-true, lt-ltb, le-ltb, ltb-false, ltb-true}
 use Rattle.texts.specs.declared.numbers.Number.{Number}
 use Rattle.texts.specs.declared.numbers.Number.TheVariants.{Small, Huge}
@@ -65,6 +65,7 @@ value_starts base s = refl
 
 -- more digits make no number smaller
 grows : (a n : ℕ) → 0 < a → n ≤ a * n
+grows zero n h = elim h [ ]
 grows (suc a) n h = omega arith
 
 pub value_grows : (base a : ℕ) (s : List ℕ) → 0 < base → a ≤ value_from base a s
