@@ -1,5 +1,7 @@
 // A get-model answer, read: its tokens, the names of the lent list, and its entries: `(`, perhaps `model`, then
 // `(define-fun NAME () (_ BitVec W) VALUE)` each, then `)`. What is said of an entry is the judgement's.
+#![tactic(auto)]
+
 ghost use Rattle.std.specs.Prelude.{◌≡◌, ◌<◌, ◌≤◌, [], length, drop, ◌==◌, slice_index_or};
 ghost use Rattle.texts.specs.Numbers.{numbered};
 ghost use Rattle.entries.specs.Tokens.{tokens};
@@ -19,7 +21,7 @@ use texts::{Number, same, value_in};
 use tokens::{after, first_token, piece_end, skip, token};
 
 // What stands at one place of an entry.
-#[derive(Drop)]
+#[derive(Clone, Copy)]
 pub enum Slot {
     Opens,
     Closes,
@@ -79,7 +81,7 @@ fn slot_at(i: usize) -> Slot
 }
 
 // The place after tokens that fit their slots, or that they do not.
-#[derive(Drop)]
+#[derive(Clone, Copy)]
 pub enum Passed {
     After(usize),
     Not,
@@ -106,7 +108,7 @@ fn pass(text: &[u8], at: usize, first: usize, last: usize) -> Passed
 
 // Where the parts of an entry stand: its name, its sort's width, its value; the place after it; and how many tokens it has, 0 where
 // there is no entry.
-#[derive(Drop)]
+#[derive(Clone, Copy)]
 pub struct Places {
     pub name: usize,
     pub sort: usize,
@@ -220,7 +222,7 @@ fn word_of(n: Number) -> u64
 }
 
 // What an entry says to a variable: 34, whether it does not fit, and its value.
-#[derive(Drop)]
+#[derive(Clone, Copy)]
 pub struct Item {
     pub unfit: bool,
     pub word: u64,

@@ -8,7 +8,7 @@ use texts::{Class, byte_at, run_end, same};
 use words::wrapping_mul;
 
 // Where the name of a line stands, without its bars, and where the next line begins.
-#[derive(Drop)]
+#[derive(Clone, Copy)]
 pub struct NameLine {
     pub from: usize,
     pub to: usize,
