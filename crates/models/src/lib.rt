@@ -1,5 +1,7 @@
 // Checking another solver's model: the problem, a list of names and a get-model answer in SMT-LIB syntax in; yes, the first root
 // that is 0, or a refusal out.
+#![tactic(auto)]
+
 ghost use Rattle.std.specs.Prelude.{◌≡◌};
 ghost use Rattle.models.specs.Judgement.{judged};
 
@@ -9,14 +11,14 @@ use judging::judge_accepted;
 use problem::{Checked, check};
 
 // A refusal's number, and its place: an entry's position, a node's id, a root's position, or 0.
-#[derive(Drop)]
+#[derive(Clone, Copy)]
 pub struct Fault {
     pub number: u8,
     pub place: u64,
 }
 
 // Our word for another solver's values: all roots are 1; the first root that is 0, by its position; or a refusal.
-#[derive(Drop)]
+#[derive(Clone, Copy)]
 pub enum Judged {
     Yes,
     No(u16),
