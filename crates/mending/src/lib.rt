@@ -1,4 +1,6 @@
 // A shuffled problem put in order, an entry point: request R-12.
+#![tactic(auto)]
+
 ghost use Rattle.mending.specs.Refusals.{Mends};
 ghost use Rattle.mending.specs.inner.Mending.{Blank, Ranked, Finishes};
 
