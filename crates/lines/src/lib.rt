@@ -1,4 +1,6 @@
 // BTOR2's lines: tokens, keywords, which lines are of the format, and what an id stands for in a text.
+#![tactic(auto)]
+
 mod format;
 mod table;
 mod tokens;

@@ -6,7 +6,7 @@ ghost use Rattle.lines.specs.inner.Keys.{packed, position, keys};
 use texts::same;
 
 // What a line makes.
-#[derive(Drop)]
+#[derive(Clone, Copy)]
 pub enum Makes {
     Sort,
     Input,
@@ -15,7 +15,7 @@ pub enum Makes {
 }
 
 // A keyword's row: what its line makes, how many references and numbers it has, and the base of a constant, 0 for none.
-#[derive(Drop)]
+#[derive(Clone, Copy)]
 pub struct Row {
     pub makes: Makes,
     pub refs: u8,

@@ -31,6 +31,9 @@ is_value Root = false
 
 value_of : (m : Makes) → T (is_value m) → Value ≡ m
 unfolding is_value
+value_of Sort t = elim t [ ]
+value_of Input t = elim t [ ]
+value_of Root t = elim t [ ]
 value_of Value t = refl
 
 pub makes_value : (k : ℕ) → (k ≡ 0 → ⊥) → (k ≡ 1 → ⊥) → k < 27 → Value ≡ (shape (word_of k)).makes
