@@ -11,7 +11,7 @@ use texts::{Number, value_in};
 use words::to_width;
 
 // Whether a line's constant fits, and its value, where it has one.
-#[derive(Drop)]
+#[derive(Clone, Copy)]
 pub struct Literal {
     pub fits: bool,
     pub value: u64,

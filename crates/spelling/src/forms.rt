@@ -4,7 +4,7 @@ ghost use Rattle.lines.specs.Words.{word_of};
 ghost use Rattle.spelling.specs.inner.Spelled.{rule_of, form_of, kind_for};
 
 // What must fit on a line, by the widths of its sort and its operands, its numbers and its constant.
-#[derive(Drop)]
+#[derive(Clone, Copy)]
 pub enum Rule {
     // Nothing.
     Free,
@@ -30,7 +30,7 @@ pub enum Rule {
 }
 
 // How a line is spelled out in nodes.
-#[derive(Drop)]
+#[derive(Clone, Copy)]
 pub enum Form {
     Nothing,
     Variable,

@@ -1,4 +1,6 @@
 // A line of BTOR2 spelled out in nodes: what must fit, its constant, its nodes, and nodes and roots in bytes.
+#![tactic(auto)]
+
 mod bytes;
 mod constants;
 mod forms;

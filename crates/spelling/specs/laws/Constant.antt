@@ -61,6 +61,7 @@ ones_cut w h =
 pub most_signed : (base w : ℕ) (t : Token) (s : Bool) (m : ℕ) → s ≡ signed t → (eqb base 10 && s) ≡ true → 1 ≤ w → m ≡ 2 ^ w - 1
     → m / 2 + 1 ≡ most_of base w t
 unfolding most_of
+most_signed base zero t s m e y h q = elim h [ ]
 most_signed base (suc w) t s m e y h q =
     let z : suc w - 1 ≡ w = omega arith in
     rw (← e, y, q, z, pow-suc 2 w) (by (2 ^ w) (pow_pos w))
@@ -80,6 +81,7 @@ fits_digits base w t e = rw e
 
 most_below : (base w : ℕ) (t : Token) → 1 ≤ w → most_of base w t ≤ 2 ^ w - 1
 unfolding most_of
+most_below base zero t h = elim h [ ]
 most_below base (suc w) t h = let z : suc w - 1 ≡ w = omega arith in rw z (by (eqb base 10 && signed t))
   where
     by : (b : Bool) → cond b (2 ^ w) (2 ^ suc w - 1) ≤ 2 ^ suc w - 1
