@@ -12,7 +12,7 @@ use spelling::write_all;
 use texts::{Class, run_end};
 
 // What became of the lines: what is kept after the last, or the number of a refusal and its line.
-#[derive(Drop)]
+#[derive(Clone, Copy)]
 pub enum Ended {
     Done(Counts),
     Stopped(u8, usize),

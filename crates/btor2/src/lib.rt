@@ -1,4 +1,6 @@
 // BTOR2 in: from the text of a combinational design to problem bytes.
+#![tactic(auto)]
+
 ghost use Rattle.std.specs.Prelude.{◌≤◌};
 ghost use Rattle.btor2.specs.Answer.{Converts};
 
@@ -12,7 +14,7 @@ use fold::convert_with;
 pub use take::{Counts, Taken};
 
 // What became of a text: so many bytes written, or the number of a refusal and its line, from 1, or 0 before any.
-#[derive(Drop)]
+#[derive(Clone, Copy)]
 pub enum Converted {
     Done(usize),
     Refused(u8, usize),

@@ -16,7 +16,7 @@ use lines::{Makes, format_fault, makes_of, token_at};
 use spelling::{Line, Operands, is_root, line_fits, new_count, new_node, node_for, put_node};
 
 // What is kept beside the arrays: the last id, and how many nodes, roots and kept ids there are.
-#[derive(Drop)]
+#[derive(Clone, Copy)]
 pub struct Counts {
     pub last: u64,
     pub nodes: u16,
@@ -24,7 +24,7 @@ pub struct Counts {
     pub names: u16,
 }
 
-#[derive(Drop)]
+#[derive(Clone, Copy)]
 pub enum Taken {
     Next(Counts),
     Fault(u8),

@@ -64,6 +64,8 @@ is_literal form.Uext = false
 is_literal form.Sext = false
 
 in_range : (a b c : Bool) → T (not a || (b && c)) → a ≡ true → (b ≡ true) × (c ≡ true)
+in_range true false c t e = elim t [ ]
+in_range true true false t e = elim t [ ]
 in_range true true true t e = (refl, refl)
 in_range false b c t e = absurd (false≢true e)
 

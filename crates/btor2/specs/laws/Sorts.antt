@@ -70,7 +70,7 @@ new_sort {room} {ls} {σ} l (t ∷ ts) q R f T h =
     let g : find_line (id_of (t ∷ ts)) (ls ++ l ∷ []) ≡ l = find_new σ.last (id_of (t ∷ ts)) ls l S.lines_are_below a (rw q) in
     rw s (T.told (id_of (t ∷ ts)) (omega arith) ∙ rw (g, q))
 
-pub sorts_noted : {room : ℕ} {ls : List (List ℕ)} {σ : State} {sorts r : ℕ} {ids widths ids' widths' : List ℕ} (l : List ℕ) → Reached room ls σ → line_fault room σ (tokens l) ≡ 0
+pub sorts_noted : {room : ℕ} {ls : List (List ℕ)} {σ : State} {sorts r : ℕ} {ids widths : List ℕ} (l : List ℕ) {ids' widths' : List ℕ} → Reached room ls σ → line_fault room σ (tokens l) ≡ 0
     → Sorted (after_line σ (tokens l)) (ls ++ l ∷ []) → SortsKept σ sorts ids widths → SortNoted (tokens l) sorts ids widths ids' widths' r
     → SortsKept (after_line σ (tokens l)) r ids' widths'
 sorts_noted l R f T K same = sorts_stay (tokens l) K
