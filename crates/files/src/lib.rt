@@ -1,5 +1,7 @@
 // What `tvrun` does between reading its files and writing its answer: the words of a file, the budget and the tape, and the lines of
 // an answer.
+#![tactic(auto)]
+
 ghost use Rattle.std.specs.Prelude.{◌≡◌, take};
 ghost use Rattle.files.specs.Words.{file_words};
 ghost use Rattle.files.specs.inner.Told.{Told};
