@@ -7,7 +7,7 @@ ghost use Rattle.frames.specs.inner.Bench.{NamesBelow, Compared, AgreesIn, Takin
 use problem::node_count;
 
 // How many are kept, repeats, unkept, so far.
-#[derive(Drop)]
+#[derive(Clone, Copy)]
 pub(crate) struct Tally {
     pub kept: u64,
     pub repeats: u64,

@@ -1,4 +1,6 @@
 // The frame bench of document 02, an entry point: gathers stimulus from many starts of one problem.
+#![tactic(auto)]
+
 ghost use Rattle.frames.specs.Bench.{Gather};
 
 mod gathering;
@@ -10,7 +12,7 @@ use names::gather_refusal;
 use problem::Checked;
 
 // How many solutions are kept, how many models agree with a kept one, and how many are neither; and what was found of the call.
-#[derive(Drop)]
+#[derive(Clone, Copy)]
 pub struct Gathered {
     pub kept: u64,
     pub repeats: u64,
