@@ -1,7 +1,7 @@
 /* Solves the worked example, x * 6 = 2 on 4 bits, and prints what tvrun prints for it. From the
-   repository's top, after `rt staticlib walumpeh`:
+   repository's top, after `rt lib` in crates/walumpeh:
 
-       cc -o example outside/c/example.c target/staticlib/libwalumpeh.a */
+       cc -o example outside/c/example.c crates/walumpeh/out/libwalumpeh.a */
 #include "walumpeh.h"
 #include <inttypes.h>
 #include <stdio.h>

@@ -1,7 +1,7 @@
 /* Measures how much stack each call takes, on a problem of 1,024 nodes, and fails where one takes more
    than the header says. Each call runs on a thread whose stack was filled with a mark beforehand.
 
-       cc -pthread -o stack outside/c/stack.c target/staticlib/libwalumpeh.a */
+       cc -pthread -o stack outside/c/stack.c crates/walumpeh/out/libwalumpeh.a */
 #include "walumpeh.h"
 #include <pthread.h>
 #include <stdio.h>

@@ -4,8 +4,8 @@
 
 use std::path::{Path, PathBuf};
 
-const WANTED: &str = "the variable WALUMPEH_LIB must name the proved library's archive, as `rt staticlib walumpeh` \
-writes it (target/staticlib/libwalumpeh.a), by an absolute path. To build without it, on the unproved model, ask for \
+const WANTED: &str = "the variable WALUMPEH_LIB must name the proved library's archive, as `rt lib` in crates/walumpeh \
+writes it (crates/walumpeh/out/libwalumpeh.a), by an absolute path. To build without it, on the unproved model, ask for \
 the feature stub: cargo build --features walumpeh/stub";
 
 fn main() {

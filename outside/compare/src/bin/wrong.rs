@@ -7,9 +7,9 @@ use std::ops::Range;
 use std::path::{Path, PathBuf};
 use std::process::ExitCode;
 
-/// Write a copy of the library's archive for each operator that is changed in the compiled evaluation
+/// Write a copy of the library's archive for each place of an operator that is changed in the compiled evaluation
 ///
-/// a below b to a at most b, xor to or.
+/// a below b, with signs or without, to a at most b; xor to or.
 #[derive(Parser)]
 #[command(name = "wrong")]
 struct Line {
@@ -24,6 +24,12 @@ struct Change {
     first: std::ops::RangeInclusive<u8>,
     second: u8,
     wrong: u8,
+}
+
+impl Change {
+    fn is_at(&self, code: &[u8], place: usize) -> bool {
+        self.first.contains(&code[place]) && code.get(place + 1) == Some(&self.second)
+    }
 }
 
 /// setb and setbe; xor and or of 64 bits, from a register and from memory.
@@ -55,23 +61,18 @@ fn wrong_builds(archive: &Path, folder: &Path) -> Result<usize, String> {
     let code =
         evaluation(&bytes).ok_or(format!("{}: no section has the evaluation's code", archive.display()))?;
     std::fs::create_dir_all(folder).map_err(|fault| at(folder, fault))?;
-    let written = CHANGES.iter().map(|change| write(&bytes, &code, change, folder));
-    Ok(written.collect::<Result<Vec<bool>, String>>()?.into_iter().filter(|&is| is).count())
-}
-
-/// Writes the archive with a change at its first place in the code, if it has one.
-fn write(bytes: &[u8], code: &[Range<usize>], change: &Change, folder: &Path) -> Result<bool, String> {
-    let is_there =
-        |&at: &usize| change.first.contains(&bytes[at]) && bytes.get(at + 1) == Some(&change.second);
-    let Some(place) = code.iter().cloned().flatten().find(is_there) else {
-        return Ok(false);
-    };
-    let mut wrong = bytes.to_vec();
-    wrong[place + 1] = change.wrong;
-    let file = folder.join(format!("lib{}.a", change.name));
-    std::fs::write(&file, wrong).map_err(|fault| format!("{}: {fault}", file.display()))?;
-    println!("{}", file.display());
-    Ok(true)
+    let mut written = 0;
+    for change in &CHANGES {
+        for place in code.iter().cloned().flatten().filter(|&place| change.is_at(&bytes, place)) {
+            written += 1;
+            let mut wrong = bytes.clone();
+            wrong[place + 1] = change.wrong;
+            let file = folder.join(format!("lib{}-{written}.a", change.name));
+            std::fs::write(&file, wrong).map_err(|fault| at(&file, fault))?;
+            println!("{}", file.display());
+        }
+    }
+    Ok(written)
 }
 
 /// Where the archive has the compiled evaluation: the sections of its object files that are named after
