@@ -101,6 +101,17 @@ impl At {
     }
 }
 
+/// Links go when a test ends, however it ends: `rt ci` refuses a repository that has one.
+impl Drop for At {
+    fn drop(&mut self) {
+        for entry in std::fs::read_dir(&self.folder).into_iter().flatten().flatten() {
+            if entry.path().is_symlink() {
+                let _ = std::fs::remove_file(entry.path());
+            }
+        }
+    }
+}
+
 pub fn text(bytes: &[u8]) -> String {
     String::from_utf8(bytes.to_vec()).unwrap()
 }
