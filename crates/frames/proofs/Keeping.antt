@@ -1,5 +1,6 @@
 -- What the functions of the gathering take from the definitions.
 use mathlib.Core.Path.{◌≡◌, refl, sym, ap, ◌∙◌}
+use mathlib.Core.Bool.{Bool, true, false}
 use mathlib.Core.List.{List, ◌++◌, append-nil}
 use Prim.Native.Nat.{ℕ, ◌+◌, ◌-◌, ◌*◌, ◌≤◌, ◌<◌}
 use native.Mathlib.Nat.{zero-add, le_trans, mul-le-mul_right}
@@ -8,12 +9,14 @@ use native.Mathlib.Omega.{arith}
 use native.Mathlib.Decide.{ℕ_discrete}
 use lib.ListN.{length, get_or, set, take, drop, drop_of_length-le}
 use lib.Seq.{take_all, paste, paste-zero, paste-suc, length-paste}
+use Rattle.words.specs.inner.Decides.{Decides}
+use Rattle.words.specs.laws.Decides.{decides_yes, decides_no}
 use Rattle.batches.specs.Batch.{part}
 use Rattle.batches.specs.laws.Parts.{part_length, part_inside}
 use Rattle.frames.specs.declared.gathering.Tally.{Tally}
 use Rattle.frames.specs.Names.{most}
 use Rattle.frames.specs.Bench.{Alike, Modelled}
-use Rattle.frames.specs.inner.Bench.{NamesBelow, Compared, AgreesIn, Taking, Taken, Taken.held as stored, StartThere, StartTaken, StartTaken.model}
+use Rattle.frames.specs.inner.Bench.{NamesBelow, Compared, AgreesIn, Taking, Taken, Taken.repeated, Taken.left_out, Taken.held as stored, StartThere, StartTaken, StartTaken.model}
 
 -- ---- two solutions compared
 
@@ -125,17 +128,32 @@ module _ {from before now : List ℕ} {i : ℕ} (e : length from ≡ length befo
 pub room_there : {names solution kept : List ℕ} {t : Tally} → Taking names solution kept t → t.kept < most → t.kept * length solution + length solution ≤ length kept
 room_there {solution = solution} {kept = kept} k h = part_inside (length solution) kept h k.room
 
+-- a model after the test of repeats: again, or left out
+module _ {names solution kept : List ℕ} {t : Tally} {r : Bool} (d : Decides (AgreesIn names kept t.kept solution) r) where
+  pub taken_again :
+      r ≡ true
+      → Taken names solution kept t kept (record { kept = t.kept; repeats = t.repeats + 1; unkept = t.unkept })
+  taken_again e = repeated (decides_yes _ _ d e)
+
+  pub taken_out :
+      r ≡ false
+      → most ≤ t.kept
+      → Taken names solution kept t kept (record { kept = t.kept; repeats = t.repeats; unkept = t.unkept + 1 })
+  taken_out e h = left_out (decides_no _ _ d e) h
+
 -- a solution that was copied into its places is held
 pub kept_there :
     (names solution kept : List ℕ) (t : Tally) {copied : List ℕ}
     → copied ≡ solution
-    → (AgreesIn names kept t.kept solution → ⊥)
+    → {r : Bool}
+    → Decides (AgreesIn names kept t.kept solution) r
+    → r ≡ false
     → t.kept < most
     → Taken names solution kept t
     (take (t.kept * length solution) kept
     ++ (copied ++ drop (t.kept * length solution + length solution - t.kept * length solution) (drop (t.kept * length solution) kept)))
     (record { kept = t.kept + 1; repeats = t.repeats; unkept = t.unkept })
-kept_there names solution kept t e x h = rw (e, across (t.kept * length solution) (length solution)) (stored x h)
+kept_there names solution kept t e d x h = rw (e, across (t.kept * length solution) (length solution)) (stored (decides_no _ _ d x) h)
 
 -- what is asked of the comparison
 pub compared : {names solution kept : List ℕ} {t : Tally} → Taking names solution kept t → Compared names solution kept t.kept

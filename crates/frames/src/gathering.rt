@@ -69,6 +69,7 @@ fn copy(from: &[u64], to: &mut [u64])
 }
 
 // A model: "one that agrees counts as a repeat, room or not"; it is kept while there is room; "the rest count as unkept".
+#[tactic(auto, using(crate::proofs::Keeping::taken_again, crate::proofs::Keeping::taken_out, crate::proofs::Keeping::kept_there))]
 fn take_model(names: &[u16], solution: &[u64], kept: &mut [u64], tally: Tally) -> Tally
     requires { Taking names.now solution.now kept.old tally }
     ensures { Taken names.now solution.now kept.old tally kept.new result }

@@ -29,6 +29,7 @@ fn old_at(olds: &[u16], k: u16) -> u16
 }
 
 // A refusal of the mended file, with the old id as a node's place.
+#[tactic(auto, using(crate::specs::laws::Faults::old_node, crate::specs::laws::Faults::old_root))]
 fn at_old(olds: &[u16], found: Checked) -> Checked
     ensures { result ≡ at_old olds.now found }
 {

@@ -1,8 +1,6 @@
 -- A repeat, no room, or one more.
 use Rattle.std.proofs.Common.{sym, arith}
-use Rattle.words.specs.laws.Decides.{decides_yes, decides_no}
-use Rattle.frames.specs.inner.Bench.{Taken.repeated, Taken.left_out}
-use Rattle.frames.proofs.Keeping.{compared, room_there, as_long, kept_there}
+use Rattle.frames.proofs.Keeping.{compared, room_there, as_long}
 use Rattle.frames.proofs.gathering.take_model.Goals as goal
 
 pub repeats-requires : goal.repeats-requires
@@ -11,14 +9,8 @@ repeats-requires c = compared c.requires
 pub overflow_add-again : goal.overflow_add-again
 overflow_add-again c = omega (arith, c.requires.few_repeats)
 
-pub returns-then-repeats : goal.returns-then-repeats
-returns-then-repeats c = repeated (decides_yes _ _ c.repeats.ensures c.if-repeats.true)
-
 pub overflow_add-missed : goal.overflow_add-missed
 overflow_add-missed c = omega (arith, c.requires.few_unkept)
-
-pub returns-then-held-ge64 : goal.returns-then-held-ge64
-returns-then-held-ge64 c = left_out (decides_no _ _ c.repeats.ensures c.if-repeats.false) c.if-held-ge64.true
 
 pub overflow_mul-from : goal.overflow_mul-from
 overflow_mul-from c = omega (arith, room_there c.requires c.if-held-ge64.false)
@@ -43,6 +35,3 @@ copy-requires c = sym (as_long c.args.kept.now c.args.solution.now c.args.tally.
 
 pub overflow_add-more : goal.overflow_add-more
 overflow_add-more c = omega (arith, c.requires.held)
-
-pub returns : goal.returns
-returns c = kept_there _ _ _ _ c.copy.ensures (decides_no _ _ c.repeats.ensures c.if-repeats.false) c.if-held-ge64.false
