@@ -8,11 +8,11 @@ use Rattle.words.specs.laws.Modular.{same_sub, same_add, same_fewer}
 use Rattle.words.specs.laws.Mul.{MulInverse, mul_to, mul_back, mul_none, mul_zero_gives}
 use Rattle.words.specs.laws.Consist.{reach_some, some_reach}
 use Rattle.boxes.specs.declared.Set.{Set}
-use Rattle.boxes.specs.declared.Set.TheVariants.{Many}
+use Rattle.boxes.specs.declared.Set.TheVariants.{Empty, Many}
 use Rattle.boxes.specs.declared.unions.Union.TheVariants.{Low}
 use Rattle.boxes.specs.inner.Boxes.{Solves, Every, Some}
 use Rattle.picking.specs.inner.Asks.{Sized}
-use Rattle.boxes.specs.laws.Solves.{solves_by, solves_all}
+use Rattle.boxes.specs.laws.Solves.{solves_by, solves_all, solves_none}
 
 -- ---- sums and products do not mind the order
 pub sum_comm : (w x y : ℕ) → (x + y) % 2 ^ w ≡ (y + x) % 2 ^ w
@@ -45,6 +45,9 @@ module _ {w s t k : ℕ} (z : Sized w t) (hs : s < 2 ^ w) (tail : Tail 64 s k) w
   -- by 2^k times an odd number: t has to be a multiple of 2^k
   pub mul_no : {c : ℕ} → c ≡ t % 2 ^ k → (c ≡ 0 → ⊥) → (v : ℕ) → v * s % 2 ^ w ≡ t → ⊥
   mul_no {c} e f v m = mul_none w s t v v k c hs tail e f v (member v m)
+
+  pub mul_nothing : {c : ℕ} → c ≡ t % 2 ^ k → (c ≡ 0 → ⊥) → Solves w (λ v. v * s % 2 ^ w ≡ t) Empty
+  mul_nothing e f = solves_none (λ v l m. mul_no e f v m)
 
   -- and then the low bits are settled
   pub mul_by : {i y n c : ℕ} {r : Set} → WordInverse 64 (s / 2 ^ k) i → y ≡ t / 2 ^ k * i % 2 ^ 64 → n ≡ t % 2 ^ k → n ≡ 0 → c ≡ y % 2 ^ (w - k)

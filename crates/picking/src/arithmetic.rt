@@ -23,6 +23,7 @@ pub(crate) fn inverse_add(w: u32, s: u64, t: u64) -> Set
 
 // s is 2^k times an odd number: 2^k has to divide t, and then the w - k low bits are those of t / 2^k times the odd
 // number's inverse, and the others are free.
+#[tactic(auto, using(crate::proofs::ArithmeticLaws::mul_nothing))]
 pub(crate) fn inverse_mul(w: u32, s: u64, t: u64) -> Set
     requires { Sized w t × (s < 2 ^ w) }
     ensures { Solves w (λ v. v * s % 2 ^ w ≡ t) result }

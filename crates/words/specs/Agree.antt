@@ -1,4 +1,4 @@
--- Ternary words: the values that agree with one, bit by bit, and Within, the same by bitAnd, as code tests it. All at any width.
+-- Ternary words: the values that agree with one, bit by bit, and Within, the same by bit_and, as code tests it. All at any width.
 use Rattle.std.specs.Prelude.{◌≡◌, ℕ, ◌≤◌, bit_and}
 use Rattle.words.specs.Bits.{bit}
 

@@ -24,7 +24,7 @@ returns-in_default c =
 
 pub mark-requires : goal.mark-requires
 mark-requires c =
-    (c.loop-j.invariant.1.words, rw c.root_at-id.ensures (c.requires c.loop-j.j c.loop-j-test.true))
+    (omega (arith, c.loop-j.invariant.1.words), rw c.root_at-id.ensures (c.requires c.loop-j.j c.loop-j-test.true))
 
 pub overflow_add-j : goal.overflow_add-j
 overflow_add-j c = omega arith
