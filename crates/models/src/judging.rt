@@ -127,6 +127,7 @@ fn read_entries(
 }
 
 // 35, variable by variable.
+#[tactic(auto, using(crate::specs::laws::First::said_at, crate::specs::laws::First::refuse_given))]
 fn absent(ids: &[u16], given: &[u8], count: usize) -> Judged
     requires { (count ≤ length ids.now) × (count ≤ length given.now) }
     ensures { result ≡ first_said (unmarked_at ids.now given.now) count }
