@@ -1,5 +1,5 @@
 //! Makes wrong builds of the library: copies of its archive in which one operator of the evaluation is
-//! another one. The prover builds nothing that is wrong, so the compiled code is changed instead. The
+//! another one. No archive is made of what is not proved, so the compiled code is changed instead. The
 //! script `caught` then shows that the comparison finds each.
 
 use clap::Parser;
