@@ -1,11 +1,9 @@
 -- Document 02, "A hundred starts at once": "one problem and up to 256 starts, each with its own N places in turn, its own stretch of
 -- one lent tape given by a length, and its own budget".
-use Rattle.std.specs.Prelude.{◌≡◌, not, ◌||◌, List, [], ◌∷◌, ℕ, ◌+◌, ◌*◌, ◌<◌, eqb, ltb, length, get_or, take, drop}
+use Rattle.std.specs.Prelude.{Err as Refused, ◌≡◌, not, ◌||◌, List, [], ◌∷◌, ℕ, ◌+◌, ◌*◌, ◌<◌, eqb, ltb, length, get_or, take, drop}
 use Rattle.problem.specs.declared.Refusal.{Refusal}
-use Rattle.problem.specs.declared.Checked.{Checked}
-use Rattle.problem.specs.declared.Checked.TheVariants.{Accepted, Refused}
 use Rattle.problem.specs.Layout.{node_count}
-use Rattle.problem.specs.Refusals.{first_of, ◌then◌, checked}
+use Rattle.problem.specs.Refusals.{Checked, Accepted, first_of, ◌then◌, checked}
 use Rattle.search.specs.declared.Answer.{Answer}
 use Rattle.search.specs.Answers.{answer_words, told}
 use Rattle.search.specs.Call.{Called}

@@ -1,13 +1,13 @@
 -- Laws of boxes that only the proofs of this crate cite: the pick from a set, and boxes as code makes them.
+use Rattle.std.specs.Prelude.{Option}
 use mathlib.Core.Path.{◌≡◌, refl, sym, subst}
 use mathlib.Core.Bool.{Bool, true, false}
 use mathlib.Core.Logic.{◌⊎◌, inl, inr}
-use Prim.Native.Nat.{ℕ, zero, suc, ◌-◌, ◌^◌, ◌≤◌, ◌<◌, zero-le}
+use Prim.Native.Nat.{ℕ, ◌≤◌, ◌<◌, zero-le}
 use native.Mathlib.Nat.{le_of_eq}
 use native.Mathlib.Omega.{arith}
 use lib.Bits.{bit_and}
 use lib.Dec.{T}
-use Rattle.words.specs.declared.found.Found.{Found}
 use Rattle.words.specs.laws.Bits.{lt_or_ge}
 use Rattle.words.specs.Agree.{Agrees}
 use Rattle.words.specs.laws.Agree.{lo_within, within_hi, within_trans}
@@ -17,7 +17,7 @@ use Rattle.words.specs.Pick.{Empty as NoMember, Least, Pick, above, around, Pick
 use Rattle.words.specs.laws.Pick.{picked_same}
 use Rattle.boxes.specs.declared.Box.{Box}
 use Rattle.boxes.specs.declared.Set.TheVariants.{Only, One}
-use Rattle.boxes.specs.inner.Boxes.{In, span, end_at, met, Chosen}
+use Rattle.boxes.specs.inner.Boxes.{In, met, Chosen}
 
 -- ---- the pick from a set
 
@@ -35,7 +35,7 @@ module _ (b : Box) (lo hi v : ℕ) where
   met_back g m = record { inside = both_to lo hi b.lo b.hi v (record { one = g; other = m.inside }); after = m.after; upto = m.upto }
 
 -- a box is picked from as one that is met with the pair
-pub one_picked : (b : Box) (lo hi p : ℕ) (r : Found) → Picked (In (met b lo hi)) p r → Picked (Chosen (One b) lo hi) p r
+pub one_picked : (b : Box) (lo hi p : ℕ) (r : Option ℕ) → Picked (In (met b lo hi)) p r → Picked (Chosen (One b) lo hi) p r
 one_picked b lo hi p r =
     picked_same (In (met b lo hi)) (Chosen (One b) lo hi) (λ v m. let k = met_to b lo hi v m in record { agrees = k.0; has = k.1 })
     (λ v m. met_back b lo hi v m.agrees m.has) p r
@@ -52,20 +52,7 @@ module _ (c : ℕ) (there : Bool) (lo hi : ℕ) where
       go (inl l) = around (λ u m h. let d = m.has.0 in omega arith) (first 0 zero-le)
       go (inr h) = above (first p h)
 
-  pub only_none : (Agrees lo hi c × (there ≡ true) → ⊥) → NoMember (Chosen (Only c there) lo hi)
-  only_none f u m = f (subst (Agrees lo hi) m.has.0 m.agrees, m.has.1)
-
 -- ---- tests
 pub decides_is : (a : Bool) → Decides (a ≡ true) a
 decides_is true = refl
 decides_is false = λ e. subst T (sym e) tt
-
--- ---- boxes as code makes them
-
-pub box_same : {l h a b l' h' a' b' : ℕ} → l ≡ l' → h ≡ h' → a ≡ a' → b ≡ b'
-    → ◌≡◌ {A = Box} (record { lo = l; hi = h; least = a; most = b }) (record { lo = l'; hi = h'; least = a'; most = b' })
-box_same e f g k = rw (e, f, g, k)
-
-pub last_end : (a b j : ℕ) → (j ≡ 0 → ⊥) → span b (2 ^ 64 - 1) ≡ end_at a b j
-last_end a b zero f = absurd (f refl)
-last_end a b (suc j) f = refl

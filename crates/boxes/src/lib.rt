@@ -3,7 +3,6 @@
 #![tactic(auto)]
 
 ghost use Rattle.std.specs.Prelude.{◌≡◌, ℕ, ◌+◌, ◌*◌, ◌^◌, ◌≤◌, ◌<◌};
-ghost use Rattle.words.specs.Agree.{Within};
 ghost use Rattle.words.specs.Pick.{FirstFrom, Picked};
 ghost use Rattle.boxes.specs.inner.Boxes.{In, Fine, span, word, low_are, shifted_to, mirrored, Bounded, end_at, met, Chosen};
 
@@ -11,10 +10,11 @@ mod unions;
 
 use unions::pick_in_union;
 pub use unions::{Row, Union};
-use words::Found;
+use words::Ternary;
 
 // A ternary word met with an interval: the values that agree with lo, hi and lie in least..=most.
-#[derive(Clone, Copy)]
+// (lo and hi are no `Ternary`: after a meeting they may be a pair that nothing agrees with.)
+#[derive(Clone, Copy, Debug, PartialEq, Eq)]
 pub struct Box {
     pub lo: u64,
     pub hi: u64,
@@ -23,8 +23,8 @@ pub struct Box {
 }
 
 // A set of words: none, a box, several boxes, or a single word if it is there, which is asked together with whether it
-// agrees.
-#[derive(Clone, Copy)]
+// agrees: with a variant less, as pick_only's contract names it, an empty set would cost the hottest pick a branch.
+#[derive(Clone, Copy, Debug, PartialEq, Eq)]
 pub enum Set {
     Empty,
     Only(u64, bool),
@@ -45,6 +45,7 @@ pub fn between(a: u64, b: u64) -> Box
 }
 
 // The values that agree with lo, hi.
+// (Two words and no `Ternary`: it asks nothing of them.)
 pub fn ternary(lo: u64, hi: u64) -> Box
     ensures { result ≡ word lo hi }
 {
@@ -97,57 +98,58 @@ pub(crate) fn end_at(a: u64, b: u64, j: u32) -> Box
     between(b, u64::MAX)
 }
 
-// A box met with a pair: the values of the box that agree with lo, hi.
-pub(crate) fn meet(b: Box, lo: u64, hi: u64) -> Box
-    ensures { result ≡ met b lo hi }
+// A box met with a pair: the values of the box that agree with it.
+pub(crate) fn meet(b: Box, pair: Ternary) -> Box
+    ensures { result ≡ met b pair.lo pair.hi }
 {
     Box {
-        lo: lo | b.lo,
-        hi: hi & b.hi,
+        lo: pair.lo | b.lo,
+        hi: pair.hi & b.hi,
         least: b.least,
         most: b.most,
     }
 }
 
 // The least value from p on that lies in the box.
-pub(crate) fn first_in_box(b: Box, p: u64) -> Found
+#[tactic(auto, using(crate::proofs::BoxLaws::no_word))]
+pub(crate) fn first_in_box(b: Box, p: u64) -> Option<u64>
     ensures { FirstFrom (In b) p result }
 {
-    if b.lo & b.hi != b.lo {
-        return Found::Nothing;
-    }
-    words::first_between(b.lo, b.hi, b.least, b.most, p)
+    let word = Ternary::new(b.lo, b.hi)?;
+    words::first_between(word, b.least, b.most, p)
 }
 
 // The pick from the values that lie in the box.
-fn pick_in_box(b: Box, p: u64) -> Found
+// (It and first_in_box differ in one call; a function as an argument would bring its clauses, which is more to read.)
+#[tactic(auto, using(crate::proofs::BoxLaws::no_word))]
+fn pick_in_box(b: Box, p: u64) -> Option<u64>
     ensures { Picked (In b) p result }
 {
-    if b.lo & b.hi != b.lo {
-        return Found::Nothing;
-    }
-    words::pick_between(b.lo, b.hi, b.least, b.most, p)
+    let word = Ternary::new(b.lo, b.hi)?;
+    words::pick_between(word, b.least, b.most, p)
 }
 
 // The pick from a single value: it is there and agrees with lo, hi or not.
-pub fn pick_only(c: u64, there: bool, lo: u64, hi: u64) -> Found
+// (Two words and no `Ternary`: it asks nothing of them.)
+pub fn pick_only(c: u64, there: bool, lo: u64, hi: u64) -> Option<u64>
     ensures { (p : ℕ) → Picked (Chosen (Set.Only c there) lo hi) p result }
 {
     if words::agrees(c, lo, hi) & there {
-        return Found::At(c);
+        Some(c)
+    } else {
+        None
     }
-    Found::Nothing
 }
 
-// The pick from the values that agree with lo, hi and are in the set.
-pub fn pick_in(set: Set, lo: u64, hi: u64, p: u64) -> Found
-    requires { Fine set × Within lo hi }
-    ensures { Picked (Chosen set lo hi) p result }
+// The pick from the values that agree with a pair and are in the set.
+pub fn pick_in(set: Set, pair: Ternary, p: u64) -> Option<u64>
+    requires { Fine set }
+    ensures { Picked (Chosen set pair.lo pair.hi) p result }
 {
     match set {
-        Set::Empty => Found::Nothing,
-        Set::Only(c, there) => pick_only(c, there, lo, hi),
-        Set::One(b) => pick_in_box(meet(b, lo, hi), p),
-        Set::Many(u) => pick_in_union(u, lo, hi, p),
+        Set::Empty => None,
+        Set::Only(c, there) => pick_only(c, there, pair.lo, pair.hi),
+        Set::One(b) => pick_in_box(meet(b, pair), p),
+        Set::Many(u) => pick_in_union(u, pair, p),
     }
 }

@@ -1,14 +1,14 @@
 // Sets of words that are no single box, and the search in one.
 ghost use Rattle.std.specs.Prelude.{◌≡◌, ◌+◌, ◌≤◌, ◌<◌};
-ghost use Rattle.words.specs.Agree.{Agrees, Within};
+ghost use Rattle.words.specs.Agree.{Agrees};
 ghost use Rattle.words.specs.Pick.{FirstFrom, Picked};
 ghost use Rattle.boxes.specs.inner.Boxes.{box_of, FineOf, ChosenOf};
 
 use crate::{Box, end_at, first_in_box, low_are, meet, mirror, shifted};
-use words::Found;
+use words::Ternary;
 
 // Rows of boxes, by their place j.
-#[derive(Clone, Copy)]
+#[derive(Clone, Copy, Debug, PartialEq, Eq)]
 pub enum Row {
     // What a shift by j takes to t: to the left, modulo 2^w (t, w), or to the right (t).
     Left(u64, u32),
@@ -19,7 +19,7 @@ pub enum Row {
     Ends(u64, u64),
 }
 
-#[derive(Clone, Copy)]
+#[derive(Clone, Copy, Debug, PartialEq, Eq)]
 pub enum Union {
     // All but one value.
     Except(u64),
@@ -44,104 +44,93 @@ fn box_of(by: Row, n: u32, j: u32) -> Box
     }
 }
 
-// The least value from p on that agrees with lo, hi and is in one of the boxes: box by box, with the least so far.
-fn first_several(by: Row, n: u32, lo: u64, hi: u64, p: u64) -> Found
+// The least value from p on that agrees with the pair and is in one of the boxes: box by box, with the least so far.
+fn first_several(by: Row, n: u32, pair: Ternary, p: u64) -> Option<u64>
     requires { FineOf (Union.Several by n) }
-    ensures { FirstFrom (ChosenOf (Union.Several by n) lo hi) p result }
+    ensures { FirstFrom (ChosenOf (Union.Several by n) pair.lo pair.hi) p result }
 {
-    let mut best = Found::Nothing;
-    let mut j = 0u32;
-    while j < n {
-        best = words::lesser_of(best, first_in_box(meet(box_of(by, n, j), lo, hi), p));
-        j += 1;
+    let mut best = None;
+    for j in 0..n {
+        best = words::lesser_of(best, first_in_box(meet(box_of(by, n, j), pair), p));
     }
     best
 }
 
-// The least value above v that agrees with lo, hi.
-fn first_after(lo: u64, hi: u64, v: u64) -> Found
-    requires { Within lo hi }
-    ensures { FirstFrom (Agrees lo hi) (v + 1) result }
+// The least value above v that agrees with the pair.
+// (A pair and a place to go from are two, here and below: a search that goes on has the same pair and another place.)
+fn first_after(pair: Ternary, v: u64) -> Option<u64>
+    ensures { FirstFrom (Agrees pair.lo pair.hi) (v + 1) result }
 {
-    if v == u64::MAX {
-        return Found::Nothing;
-    }
-    words::first_agreeing(lo, hi, v + 1)
+    let next = v.checked_add(1)?;
+    words::first_agreeing(pair, next)
 }
 
 // Where s is in the way it is the one after it.
-fn first_except(s: u64, lo: u64, hi: u64, p: u64) -> Found
-    requires { Within lo hi }
-    ensures { FirstFrom (ChosenOf (Union.Except s) lo hi) p result }
+fn first_except(s: u64, pair: Ternary, p: u64) -> Option<u64>
+    ensures { FirstFrom (ChosenOf (Union.Except s) pair.lo pair.hi) p result }
 {
-    let Found::At(v) = words::first_agreeing(lo, hi, p) else {
-        return Found::Nothing;
-    };
+    let v = words::first_agreeing(pair, p)?;
     if v != s {
-        return Found::At(v);
+        return Some(v);
     }
-    first_after(lo, hi, v)
+    first_after(pair, v)
 }
 
-// Where hi has some of the m low bits and the first value that agrees has none, the one after it has some.
-fn first_low(m: u32, lo: u64, hi: u64, p: u64) -> Found
-    requires { (m ≤ 64) × Within lo hi }
-    ensures { FirstFrom (ChosenOf (Union.Low m) lo hi) p result }
+// Where the pair's hi has some of the m low bits and the first value that agrees has none, the one after it has some.
+fn first_low(m: u32, pair: Ternary, p: u64) -> Option<u64>
+    requires { m ≤ 64 }
+    ensures { FirstFrom (ChosenOf (Union.Low m) pair.lo pair.hi) p result }
 {
-    if words::cut(hi, m) == 0 {
-        return Found::Nothing;
+    if words::cut(pair.hi, m) == 0 {
+        return None;
     }
-    let Found::At(v) = words::first_agreeing(lo, hi, p) else {
-        return Found::Nothing;
-    };
+    let v = words::first_agreeing(pair, p)?;
     if words::cut(v, m) != 0 {
-        return Found::At(v);
+        return Some(v);
     }
-    first_after(lo, hi, v)
+    first_after(pair, v)
 }
 
 // The first value that agrees; where v / t does not take it to t, no divisor takes to t what follows before the next multiple
-// of t. Multiples that are tried so are at most 256.
-fn first_dividend(t: u64, m: u64, lo: u64, hi: u64, p: u64) -> Found
-    requires { FineOf (Union.Dividends t m) × Within lo hi }
-    ensures { FirstFrom (ChosenOf (Union.Dividends t m) lo hi) p result }
+// of t. Multiples that are tried so are at most 256. (A loop: where it goes on depends on what was found, which no range counts.)
+fn first_dividend(t: u64, m: u64, pair: Ternary, p: u64) -> Option<u64>
+    requires { FineOf (Union.Dividends t m) }
+    ensures { FirstFrom (ChosenOf (Union.Dividends t m) pair.lo pair.hi) p result }
 {
     let mut from = p;
     loop {
-        let Found::At(v) = words::first_agreeing(lo, hi, from) else {
-            return Found::Nothing;
-        };
+        let v = words::first_agreeing(pair, from)?;
         if m < v {
-            return Found::Nothing;
+            return None;
         }
         let s = v / t;
         if v % t < s {
-            return Found::At(v);
+            return Some(v);
         }
         from = (s + 1) * t;
     }
 }
 
-// The least value from p on that agrees with lo, hi and is in the set.
-fn first_in(set: Union, lo: u64, hi: u64, p: u64) -> Found
-    requires { FineOf set × Within lo hi }
-    ensures { FirstFrom (ChosenOf set lo hi) p result }
+// The least value from p on that agrees with the pair and is in the set.
+fn first_in(set: Union, pair: Ternary, p: u64) -> Option<u64>
+    requires { FineOf set }
+    ensures { FirstFrom (ChosenOf set pair.lo pair.hi) p result }
 {
     match set {
-        Union::Except(s) => first_except(s, lo, hi, p),
-        Union::Low(m) => first_low(m, lo, hi, p),
-        Union::Dividends(t, m) => first_dividend(t, m, lo, hi, p),
-        Union::Several(by, n) => first_several(by, n, lo, hi, p),
+        Union::Except(s) => first_except(s, pair, p),
+        Union::Low(m) => first_low(m, pair, p),
+        Union::Dividends(t, m) => first_dividend(t, m, pair, p),
+        Union::Several(by, n) => first_several(by, n, pair, p),
     }
 }
 
-// The pick from the values that agree with lo, hi and are in the set.
-pub(crate) fn pick_in_union(set: Union, lo: u64, hi: u64, p: u64) -> Found
-    requires { FineOf set × Within lo hi }
-    ensures { Picked (ChosenOf set lo hi) p result }
+// The pick from the values that agree with the pair and are in the set: as in words::pick_between the let-else of document 01's sentence.
+pub(crate) fn pick_in_union(set: Union, pair: Ternary, p: u64) -> Option<u64>
+    requires { FineOf set }
+    ensures { Picked (ChosenOf set pair.lo pair.hi) p result }
 {
-    let Found::At(v) = first_in(set, lo, hi, p) else {
-        return first_in(set, lo, hi, 0);
+    let Some(v) = first_in(set, pair, p) else {
+        return first_in(set, pair, 0);
     };
-    Found::At(v)
+    Some(v)
 }

@@ -1,5 +1,5 @@
 -- The conversion: a fold over the lines that gives nodes and roots, or the first refusal and its line.
-use Rattle.std.specs.Prelude.{Bool, true, false, cond, not, ◌&&◌, ◌||◌, List, [], ◌∷◌, ◌++◌, ℕ, zero, suc, ◌+◌, ◌-◌, ◌*◌, ltb, leb, eqb, length, get_or}
+use Rattle.std.specs.Prelude.{Bool, false, cond, not, ◌||◌, List, [], ◌∷◌, ◌++◌, ℕ, suc, ◌+◌, ◌-◌, ◌*◌, ltb, leb, eqb, length, get_or}
 use Rattle.problem.specs.declared.layout.Node.{Node}
 use Rattle.lines.specs.Lines.{Token, lines, tokens}
 use Rattle.lines.specs.declared.table.Makes.{Makes}

@@ -1,144 +1,154 @@
 // What an id stands for. Lines that make nodes are at most 1,024, so their ids are kept, with their nodes beside them; a line that only gives
 // another name (an extension by 0 of a positive reference) is read off the text.
-ghost use Rattle.std.specs.Prelude.{◌≡◌, ℕ, ◌≤◌, length, take};
+ghost use Rattle.std.specs.Prelude.{◌≡◌, ◌≤◌, length, take, Option};
 ghost use Rattle.lines.specs.Lines.{lines, tokens};
 ghost use Rattle.lines.specs.Format.{ref_of};
 ghost use Rattle.btor2.specs.Conversion.{State, at};
-ghost use Rattle.btor2.specs.inner.Kept.{Rising, Lower, Beside, Named, Sorted, Seen, node_named, looked_up, WidthKept, SortsKept, SortNoted};
+ghost use Rattle.btor2.specs.inner.Kept.{Rising, Beside, Named, Sorted, Seen, node_named, looked_up, WidthKept, SortsKept, SortNoted};
 
 use lines::{alias_of, is_signed, line_of, small_of, token_walk, unsigned_of, width_told};
 use spelling::Operand;
 use texts::byte_at;
 
-// The first place, of so many increasing ids, that is not below an id.
-fn lower(ids: &[u64], names: u16, id: u64) -> u16
-    requires { Rising ids.now names }
-    ensures { Lower ids.now names id result }
-{
-    let mut low: u16 = 0;
-    let mut high = names;
-    while low < high {
-        let middle = low + (high - low) / 2;
-        if ids[middle as usize] < id {
-            low = middle + 1;
-        } else {
-            high = middle;
-        }
-    }
-    low
+/// The first lines of a text, so many.
+#[derive(Clone, Copy, Debug)]
+pub struct Earlier<'a> {
+    pub text: &'a [u8],
+    pub passed: usize,
 }
 
-// The node beside an id, and 1024 where the id is not there.
-fn beside(ids: &[u64], places: &[u16], names: u16, id: u64) -> u16
-    requires { Rising ids.now names × (names ≤ length places.now) }
-    ensures { Beside ids.now places.now names id result }
-{
-    let k = lower(ids, names, id);
-    if names <= k {
-        return 1024;
-    }
-    if ids[k as usize] == id {
-        return places[k as usize];
-    }
-    1024
+/// Ids, and the node of each beside it.
+// (Two lists, as ids are searched alone, and their count, as `Named` and `Rising` speak of it.)
+#[derive(Clone, Copy, Debug)]
+pub struct KeptNames<'a> {
+    pub ids: &'a [u64],
+    pub places: &'a [u16],
+    pub count: u16,
+    ghost room: { count ≤ length ids.now },
+    ghost beside: { count ≤ length places.now },
 }
 
-// The node that an id names, and 1024 where it names none: other names are followed, which leads to ever lower ids.
-fn node_of(text: &[u8], passed: usize, ids: &[u64], places: &[u16], names: u16, id: u64) -> u16
-    requires { Rising ids.now names × (names ≤ length places.now) }
-    ensures { (σ : State) → Named σ (take passed (lines text.now)) names ids.now places.now → result ≡ node_named σ id }
+/// The ids of sorts, and the width of each beside it: the first 64.
+// (`Drop` alone: so many places are never copied, compared or printed. Two arrays: pairs would take nearly twice the room.)
+#[derive(Drop)]
+pub struct Sorts {
+    pub ids: [u64; 64],
+    pub widths: [u8; 64],
+    pub count: u8,
+    ghost few: { count ≤ 64 },
+}
+
+/// What a line is read against: the lines before it, the names and the bytes of the nodes so far, and the sorts.
+// (No `Debug`: `Sorts` has none.)
+#[derive(Clone, Copy)]
+pub struct Before<'t, 'k> {
+    pub earlier: Earlier<'t>,
+    pub sorts: &'t Sorts,
+    pub names: KeptNames<'k>,
+    pub bytes: &'k [u8],
+}
+
+// The node beside an id, where the ids increase.
+#[tactic(auto, using(crate::specs::laws::Name::beside_found, crate::specs::laws::Name::beside_none))]
+fn beside(names: KeptNames, id: u64) -> Option<u16>
+    ensures { Rising names.entry.ids.now names.entry.count → Beside names.entry.ids.now names.entry.places.now names.entry.count id result }
+{
+    let ids = &names.ids[..usize::from(names.count)];
+    match ids.binary_search(&id) {
+        Ok(k) => Some(names.places[k]),
+        Err(_) => None,
+    }
+}
+
+// The node that an id names: other names are followed, which leads to ever lower ids. (How many there are is not known before.)
+fn node_of(earlier: Earlier, names: KeptNames, id: u64) -> Option<u16>
+    ensures { (σ : State) → Named σ (take earlier.entry.passed (lines earlier.entry.text.now)) names.entry.count names.entry.ids.now names.entry.places.now → Rising names.entry.ids.now names.entry.count → result ≡ node_named σ id }
 {
     let mut next = id;
     while 0 < next {
-        let node = beside(ids, places, names, next);
-        if node < 1024 {
-            return node;
+        if let Some(node) = beside(names, next) {
+            return Some(node);
         }
-        let other = alias_of(line_of(text, passed, next));
+        let other = alias_of(line_of(earlier.text, earlier.passed, next));
         if next <= other {
-            return 1024;
+            return None;
         }
         next = other;
     }
-    1024
+    None
 }
 
-// The operand that a reference names; one with node 1024 where it names none.
-pub(crate) fn operand_of(
-    text: &[u8],
-    passed: usize,
-    ids: &[u64],
-    places: &[u16],
-    names: u16,
-    bytes: &[u8],
-    t: &[u8],
-) -> Operand
-    requires { Rising ids.now names × (names ≤ length places.now) }
-    ensures { (σ : State) → Seen σ (take passed (lines text.now)) names bytes.now ids.now places.now → result ≡ looked_up σ (ref_of t.now) }
+// The operand that a reference names; one with node 1024 where it names none, as the definitions of a line's nodes have a number there.
+// (`Seen` is said of every state σ, here and in `read`: so it stands in the clauses, and no type can hold it.)
+pub(crate) fn operand_of(before: &Before, t: &[u8]) -> Operand
+    ensures { (σ : State) → Seen σ (take before.now.earlier.passed (lines before.now.earlier.text.now)) before.now.names.count before.now.bytes.now before.now.names.ids.now before.now.names.places.now → result ≡ looked_up σ (ref_of t.now) }
 {
     let negative = is_signed(t);
-    let node = node_of(text, passed, ids, places, names, small_of(unsigned_of(t)));
-    if 1024 <= node {
-        return Operand {
+    match node_of(before.earlier, before.names, small_of(unsigned_of(t))) {
+        Some(node) => Operand {
+            negative,
+            node,
+            width: byte_at(before.bytes, 24 * usize::from(node) + 1),
+        },
+        None => Operand {
             negative,
             node: 1024,
             width: 0,
-        };
-    }
-    Operand {
-        negative,
-        node,
-        width: byte_at(bytes, 24 * (node as usize) + 1),
+        },
     }
 }
 
-// The width kept for a sort's id, of so many; 0 where the id is not there.
-fn width_kept(known: &[u64], widths: &[u8], sorts: u8, id: u64) -> u8
-    requires { (sorts ≤ length known.now) × (sorts ≤ length widths.now) }
-    ensures { WidthKept known.now widths.now sorts id result }
-{
-    let mut k: u8 = 0;
-    while k < sorts {
-        if known[k as usize] == id {
-            return widths[k as usize];
+impl Sorts {
+    /// None yet.
+    pub(crate) fn new() -> Sorts
+        ensures { result.count ≡ 0 }
+    {
+        Sorts {
+            ids: [0; 64],
+            widths: [0; 64],
+            count: 0,
         }
-        k += 1;
     }
-    0
-}
 
-// The width of the sort that an id names, and 0 where it names none: the first sorts are kept, any other is read off the text.
-pub(crate) fn sort_width(
-    text: &[u8],
-    passed: usize,
-    known: &[u64],
-    widths: &[u8],
-    sorts: u8,
-    id: u64,
-) -> u8
-    requires { (sorts ≤ length known.now) × (sorts ≤ length widths.now) }
-    ensures { (σ : State) → Sorted σ (take passed (lines text.now)) → SortsKept σ sorts known.now widths.now → result ≡ at id σ.sorts }
-{
-    if id == 0 {
-        return 0;
+    // The width kept for a sort's id; 0, as for a width that no sort has, where the id is not there.
+    // (By number: it is the place in both arrays, and `position` would want a `match` more.)
+    fn width_kept(&self, id: u64) -> u8
+        ensures { WidthKept self.now.ids self.now.widths self.now.count id result }
+    {
+        for k in 0..usize::from(self.count) {
+            if self.ids[k] == id {
+                return self.widths[k];
+            }
+        }
+        0
     }
-    let kept = width_kept(known, widths, sorts, id);
-    if 0 < kept {
-        return kept;
-    }
-    width_told(line_of(text, passed, id))
-}
 
-// A sort's line that has passed is kept, while there is room; answers how many then are.
-pub(crate) fn note_sort(line: &[u8], known: &mut [u64], widths: &mut [u8], sorts: u8) -> u8
-    requires { (length known.old ≡ 64) × (length widths.old ≡ 64) × (sorts ≤ 64) }
-    ensures { SortNoted (tokens line.now) sorts known.old widths.old known.new widths.new result }
-{
-    let width = width_told(line);
-    if (width == 0) | (64 <= sorts) {
-        return sorts;
+    /// The width of the sort that an id names, and 0 where it names none: the first sorts are kept, any other is read off the text.
+    // (0, as `at` has it for what a table does not have.)
+    pub(crate) fn width_of(&self, earlier: Earlier, id: u64) -> u8
+        ensures { (σ : State) → Sorted σ (take earlier.entry.passed (lines earlier.entry.text.now)) → SortsKept σ self.now.count self.now.ids self.now.widths → result ≡ at id σ.sorts }
+    {
+        if id == 0 {
+            return 0;
+        }
+        let kept = self.width_kept(id);
+        if 0 < kept {
+            return kept;
+        }
+        width_told(line_of(earlier.text, earlier.passed, id))
     }
-    known[sorts as usize] = small_of(token_walk(line, 0));
-    widths[sorts as usize] = width;
-    sorts + 1
+
+    /// A sort's line that has passed is kept, while there is room.
+    pub(crate) fn note(&mut self, line: &[u8])
+        ensures { SortNoted (tokens line.now) self.old.count self.old.ids self.old.widths self.new.ids self.new.widths self.new.count }
+    {
+        let width = width_told(line);
+        if width == 0 || 64 <= self.count {
+            return;
+        }
+        let at = usize::from(self.count);
+        self.ids[at] = small_of(token_walk(line, 0));
+        self.widths[at] = width;
+        self.count += 1;
+    }
 }

@@ -6,28 +6,22 @@ ghost use Rattle.lines.specs.Words.{shape, word_of};
 ghost use Rattle.btor2.specs.Conversion.{State};
 ghost use Rattle.spelling.specs.Nodes.{is_root};
 ghost use Rattle.spelling.specs.Bytes.{all_nodes};
-ghost use Rattle.lines.specs.inner.Places.{Marked};
 ghost use Rattle.btor2.specs.inner.Kept.{SortsKept};
 ghost use Rattle.spelling.specs.inner.Spelled.{count_read, new_read};
-ghost use Rattle.btor2.specs.inner.Taking.{unknown_read, sort_missing, operand_missing, roots_after, adds_name, overfull, NamedIf, RootIf, Fits, Kept, Stepped, Placed, Settled};
+ghost use Rattle.btor2.specs.inner.Taking.{unknown_read, sort_missing, operand_missing, roots_after, adds_name, overfull, NamedIf, RootIf, Kept, Stepped, Placed, Settled, counted, nothing};
 
+use crate::names::{Before, Earlier, KeptNames, Sorts};
 use crate::read::read_line;
-use lines::{Makes, format_fault, makes_of, token_at};
+use lines::{Fault, Makes, MarkedLine, format_fault, makes_of};
 use spelling::{Line, Operands, is_root, line_fits, new_count, new_node, node_for, put_node};
 
 // What is kept beside the arrays: the last id, and how many nodes, roots and kept ids there are.
-#[derive(Clone, Copy)]
+#[derive(Clone, Copy, Debug, PartialEq, Eq)]
 pub struct Counts {
     pub last: u64,
     pub nodes: u16,
     pub roots: u16,
     pub names: u16,
-}
-
-#[derive(Clone, Copy)]
-pub enum Taken {
-    Next(Counts),
-    Fault(u8),
 }
 
 // ---- refusals 3 and 5
@@ -36,20 +30,20 @@ fn sort_missing(makes: Makes, width: u8) -> bool
     ensures { result ≡ sort_missing makes width }
 {
     match makes {
-        Makes::Sort => false,
-        Makes::Input => width == 0,
-        Makes::Value => width == 0,
-        Makes::Root => false,
+        Makes::Input | Makes::Value => width == 0,
+        Makes::Sort | Makes::Root => false,
     }
 }
 
+// An operand whose reference names nothing has node 1024: `Operand` has a number there, as the nodes of a line by its definition (`placed`).
 fn operand_missing(ops: Operands) -> bool
     ensures { result ≡ operand_missing ops }
 {
-    (1024 <= ops.a.node) | (1024 <= ops.b.node) | (1024 <= ops.c.node)
+    1024 <= ops.a.node || 1024 <= ops.b.node || 1024 <= ops.c.node
 }
 
 // An id that does not increase, or a sort or a reference that is not defined.
+#[tactic(auto, unfolding(crate::specs::inner::Taking::unknown_read))]
 fn is_unknown(x: Line, last: u64) -> bool
     ensures { result ≡ unknown_read x last }
 {
@@ -59,10 +53,11 @@ fn is_unknown(x: Line, last: u64) -> bool
 }
 
 // More nodes or roots than there may be, or more bytes than are lent.
+#[tactic(auto, unfolding(crate::specs::inner::Taking::overfull))]
 fn is_overfull(room: usize, nodes: u16, roots: u16) -> bool
     ensures { result ≡ overfull room nodes roots }
 {
-    (1024 < nodes) | (256 < roots) | (room < 9 + 24 * (nodes as usize) + 2 * (roots as usize))
+    (1024 < nodes) | (256 < roots) | (room < 9 + 24 * usize::from(nodes) + 2 * usize::from(roots))
 }
 
 // ---- what a line adds
@@ -73,14 +68,8 @@ fn roots_after(makes: Makes, rooted: &[u16], roots: u16, node: u16) -> u16
     ensures { result ≡ roots_after makes (take roots rooted.now) roots node }
 {
     match makes {
-        Makes::Sort => roots,
-        Makes::Input => roots,
-        Makes::Value => roots,
-        Makes::Root => if is_root(rooted, roots, node) {
-            roots
-        } else {
-            roots + 1
-        },
+        Makes::Root if !is_root(rooted, roots, node) => roots + 1,
+        _ => roots,
     }
 }
 
@@ -88,32 +77,30 @@ fn add_nodes(bytes: &mut [u8], x: Line, n: u16, total: u16)
     requires { (n ≤ 1024) × (24 * (n + total) ≤ length bytes.old) × (total ≡ count_read x) }
     ensures { x.width ≤ 64 → bytes.new ≡ sets bytes.old (24 * n) (all_nodes (new_read x n)) }
 {
-    let mut j: u16 = 0;
-    while j < total {
-        let node = new_node(x, n, j);
-        put_node(bytes, 24 * ((n + j) as usize), node);
-        j += 1;
+    for j in 0..total {
+        put_node(bytes, 24 * usize::from(n + j), new_node(x, n, j));
     }
 }
 
-// The id and the node of a line that names one, while there is room; answers how many ids are then kept.
+// The id and the node of a line, where it is to be kept; answers how many ids are then kept. (The arrays are lent apart from the draft, here and
+// below, so that nothing need be said of its other fields: that is plainer than six clauses that they stay.)
 fn add_name(
+    wanted: bool,
     ids: &mut [u64],
     places: &mut [u16],
-    makes: Makes,
     names: u16,
-    total: u16,
     id: u64,
     node: u16,
 ) -> u16
-    requires { (names + total ≤ 2048) × (length ids.old ≡ 2048) × (length places.old ≡ 2048) }
-    ensures { NamedIf (adds_name makes total names) ids.old places.old names id node ids.new places.new result }
+    requires { wanted ≡ true → (names < length ids.old) × (names < length places.old) × (names < 2048) }
+    ensures { NamedIf wanted ids.old places.old names id node ids.new places.new result }
 {
-    if !adds_name(makes, total, names) {
+    if !wanted {
         return names;
     }
-    ids[names as usize] = id;
-    places[names as usize] = node;
+    let at = usize::from(names);
+    ids[at] = id;
+    places[at] = node;
     names + 1
 }
 
@@ -122,10 +109,8 @@ fn adds_name(makes: Makes, total: u16, names: u16) -> bool
     ensures { result ≡ adds_name makes total names }
 {
     match makes {
-        Makes::Sort => false,
-        Makes::Input => (0 < total) | (names < 1024),
-        Makes::Value => (0 < total) | (names < 1024),
-        Makes::Root => false,
+        Makes::Input | Makes::Value => 0 < total || names < 1024,
+        Makes::Sort | Makes::Root => false,
     }
 }
 
@@ -134,103 +119,115 @@ fn add_root(rooted: &mut [u16], before: u16, after: u16, node: u16)
     ensures { RootIf before after node rooted.old rooted.new }
 {
     if before < after {
-        rooted[before as usize] = node;
+        rooted[usize::from(before)] = node;
     }
 }
 
-// What a line that passes 1 to 4 adds, or refusal 5.
-fn place_line(
-    x: Line,
-    counts: Counts,
-    room: usize,
-    bytes: &mut [u8],
-    ids: &mut [u64],
-    places: &mut [u16],
-    rooted: &mut [u16],
-) -> Taken
-    requires { Fits counts bytes.old ids.old places.old rooted.old }
-    ensures { Placed x counts room bytes.old ids.old places.old rooted.old bytes.new ids.new places.new rooted.new result }
-{
-    let n = counts.nodes;
-    let makes = makes_of(x.word);
-    let total = new_count(x);
-    let node = node_for(x, n, total);
-    let nodes = n + total;
-    let roots = roots_after(makes, rooted, counts.roots, node);
-    if is_overfull(room, nodes, roots) {
-        return Taken::Fault(5);
-    }
-    add_nodes(bytes, x, n, total);
-    let names = add_name(ids, places, makes, counts.names, total, x.id, node);
-    add_root(rooted, counts.roots, roots, node);
-    Taken::Next(Counts {
-        last: x.id,
-        nodes,
-        roots,
-        names,
-    })
+/// The problem so far: the bytes of its nodes, the ids that are kept with their nodes beside them, the roots, and how many of each there are.
+// (`Drop` alone: so many places are never copied, compared or printed.)
+#[derive(Drop)]
+pub struct Draft {
+    pub bytes: [u8; 24576],
+    pub ids: [u64; 2048],
+    pub places: [u16; 2048],
+    pub rooted: [u16; 256],
+    pub counts: Counts,
+    ghost nodes_few: { counts.nodes ≤ 1024 },
+    ghost roots_few: { counts.roots ≤ 256 },
+    ghost names_few: { counts.names ≤ counts.nodes + 1024 },
 }
 
-// A line that is read: refusals 3 and 4, then what it adds.
-fn settle_line(
-    x: Line,
-    counts: Counts,
-    room: usize,
-    bytes: &mut [u8],
-    ids: &mut [u64],
-    places: &mut [u16],
-    rooted: &mut [u16],
-) -> Taken
-    requires { Fits counts bytes.old ids.old places.old rooted.old }
-    ensures { Settled x counts room bytes.old ids.old places.old rooted.old bytes.new ids.new places.new rooted.new result }
-{
-    if is_unknown(x, counts.last) {
-        return Taken::Fault(3);
+impl Draft {
+    /// Nothing yet.
+    pub(crate) fn new() -> Draft
+        ensures { result.counts ≡ nothing }
+    {
+        Draft {
+            bytes: [0; 24576],
+            ids: [0; 2048],
+            places: [0; 2048],
+            rooted: [0; 256],
+            counts: Counts {
+                last: 0,
+                nodes: 0,
+                roots: 0,
+                names: 0,
+            },
+        }
     }
-    if !line_fits(x) {
-        return Taken::Fault(4);
-    }
-    place_line(x, counts, room, bytes, ids, places, rooted)
-}
 
-// A line whose tokens are marked, after so many lines of the text.
-pub(crate) fn take_line(
-    text: &[u8],
-    line: &[u8],
-    marks: &[usize],
-    passed: usize,
-    counts: Counts,
-    room: usize,
-    known: &[u64],
-    widths: &[u8],
-    sorts: u8,
-    bytes: &mut [u8],
-    ids: &mut [u64],
-    places: &mut [u16],
-    rooted: &mut [u16],
-) -> Taken
-    requires { Fits counts bytes.old ids.old places.old rooted.old × Marked line.now 12 marks.now × (sorts ≤ length known.now) × (sorts ≤ length widths.now) }
-    ensures { (σ : State) → Kept room σ (take passed (lines text.now)) counts bytes.old ids.old places.old rooted.old → SortsKept σ sorts known.now widths.now → Stepped room σ (take passed (lines text.now)) line.now bytes.new ids.new places.new rooted.new result }
-{
-    if token_at(line, marks, 0).len() == 0 {
-        return Taken::Next(counts);
+    // What a line that passes 1 to 4 adds, or refusal 5.
+    fn place_line(&mut self, x: Line, room: usize) -> Result<(), Fault>
+        ensures { Placed x self.old.counts room self.old.bytes self.old.ids self.old.places self.old.rooted self.new.bytes self.new.ids self.new.places self.new.rooted (counted result self.new.counts) }
+    {
+        let before = self.counts;
+        let makes = makes_of(x.word);
+        let total = new_count(x);
+        let node = node_for(x, before.nodes, total);
+        let nodes = before.nodes + total;
+        let roots = roots_after(makes, &self.rooted, before.roots, node);
+        if is_overfull(room, nodes, roots) {
+            return Err(Fault::Room);
+        }
+        add_nodes(&mut self.bytes, x, before.nodes, total);
+        let wanted = adds_name(makes, total, before.names);
+        let names = add_name(
+            wanted,
+            &mut self.ids,
+            &mut self.places,
+            before.names,
+            x.id,
+            node,
+        );
+        add_root(&mut self.rooted, before.roots, roots, node);
+        self.counts = Counts {
+            last: x.id,
+            nodes,
+            roots,
+            names,
+        };
+        Ok(())
     }
-    let fault = format_fault(line, marks);
-    if fault != 0 {
-        return Taken::Fault(fault);
+
+    // A line that is read: refusals 3 and 4, then what it adds.
+    fn settle_line(&mut self, x: Line, room: usize) -> Result<(), Fault>
+        ensures { Settled x self.old.counts room self.old.bytes self.old.ids self.old.places self.old.rooted self.new.bytes self.new.ids self.new.places self.new.rooted (counted result self.new.counts) }
+    {
+        if is_unknown(x, self.counts.last) {
+            return Err(Fault::Id);
+        }
+        if !line_fits(x) {
+            return Err(Fault::Width);
+        }
+        self.place_line(x, room)
     }
-    let x = read_line(
-        text,
-        passed,
-        ids,
-        places,
-        counts.names,
-        known,
-        widths,
-        sorts,
-        bytes,
-        line,
-        marks,
-    );
-    settle_line(x, counts, room, bytes, ids, places, rooted)
+
+    /// A line whose tokens are marked, after the lines before it and with their sorts.
+    pub(crate) fn take_line<'a>(
+        &mut self,
+        earlier: Earlier<'a>,
+        sorts: &'a Sorts,
+        line: MarkedLine,
+        room: usize,
+    ) -> Result<(), Fault>
+        ensures { (σ : State) → Kept room σ (take earlier.entry.passed (lines earlier.entry.text.now)) self.old.counts self.old.bytes self.old.ids self.old.places self.old.rooted → SortsKept σ sorts.now.count sorts.now.ids sorts.now.widths → Stepped room σ (take earlier.entry.passed (lines earlier.entry.text.now)) line.entry.text.now self.new.bytes self.new.ids self.new.places self.new.rooted (counted result self.new.counts) }
+    {
+        if line.token_at(0).is_empty() {
+            return Ok(());
+        }
+        format_fault(line)?;
+        let names = KeptNames {
+            ids: &self.ids,
+            places: &self.places,
+            count: self.counts.names,
+        };
+        let before = Before {
+            earlier,
+            sorts,
+            names,
+            bytes: &self.bytes,
+        };
+        let x = read_line(&before, line);
+        self.settle_line(x, room)
+    }
 }

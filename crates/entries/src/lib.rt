@@ -7,21 +7,23 @@ ghost use Rattle.texts.specs.Numbers.{numbered};
 ghost use Rattle.entries.specs.Tokens.{tokens};
 ghost use Rattle.entries.specs.Entries.{width_said, fits as fitting, value_width, value_said, is_model};
 ghost use Rattle.entries.specs.Names.{inside as inside_of};
-ghost use Rattle.entries.specs.inner.Places.{form, PassedBy, EntryAt, ItemAt, overflows, small, Begins, Ends};
+ghost use Rattle.entries.specs.inner.Places.{form, PassedBy, EntryAt, item_said, Begins, Ends};
 
+mod list;
 mod names;
 mod numbers;
 mod tokens;
 
-pub use names::{any_again, position_of, read_digests, read_names};
+pub use list::{NameIndex, NameList};
+pub use names::read_names;
 use names::{inside, is_name};
 use numbers::{base_of, beyond, is_decimal, literal_width, width_said};
 use problem::over_width;
-use texts::{Number, same, value_in};
+use texts::{same, value_in};
 use tokens::{after, first_token, piece_end, skip, token};
 
 // What stands at one place of an entry.
-#[derive(Clone, Copy)]
+#[derive(Clone, Copy, Debug, PartialEq, Eq)]
 pub enum Slot {
     Opens,
     Closes,
@@ -57,6 +59,7 @@ const FORM: [Slot; 18] = [
 ];
 
 // Whether a token fits where it stands.
+#[tactic(auto, unfolding(crate::specs::Entries::fits, texts::specs::Runs::ascii))]
 fn fits(slot: Slot, t: &[u8]) -> bool
     ensures { result ≡ fitting slot t.now }
 {
@@ -73,6 +76,7 @@ fn fits(slot: Slot, t: &[u8]) -> bool
     }
 }
 
+#[tactic(auto, unfolding(crate::specs::inner::Places::form, crate::specs::Entries::heading, crate::specs::Entries::literal, crate::specs::Entries::decimal))]
 fn slot_at(i: usize) -> Slot
     requires { i < 18 }
     ensures { result ≡ slice_index_or form i Slot.Opens }
@@ -80,35 +84,26 @@ fn slot_at(i: usize) -> Slot
     FORM[i]
 }
 
-// The place after tokens that fit their slots, or that they do not.
-#[derive(Clone, Copy)]
-pub enum Passed {
-    After(usize),
-    Not,
-}
-
-// The tokens from a place on, held against the slots from the first up to the last.
-fn pass(text: &[u8], at: usize, first: usize, last: usize) -> Passed
+// The tokens from a place on, held against the slots from the first up to the last: the place after them, where all fit.
+// (By number, as `PassedBy` tells the slots.)
+fn pass(text: &[u8], at: usize, first: usize, last: usize) -> Option<usize>
     requires { (at ≤ length text.now) × (first ≤ last) × (last ≤ 18) }
     ensures { PassedBy text.now at first last result }
 {
     let mut place = at;
-    let mut i = first;
-    while i < last {
+    for i in first..last {
         let from = skip(text, place);
         let end = piece_end(text, from);
         if !fits(slot_at(i), &text[from..end]) {
-            return Passed::Not;
+            return None;
         }
         place = end;
-        i += 1;
     }
-    Passed::After(place)
+    Some(place)
 }
 
-// Where the parts of an entry stand: its name, its sort's width, its value; the place after it; and how many tokens it has, 0 where
-// there is no entry.
-#[derive(Clone, Copy)]
+// Where the parts of an entry stand: its name, its sort's width, its value; the place after it; and how many tokens it has.
+#[derive(Clone, Copy, Debug, PartialEq, Eq)]
 pub struct Places {
     pub name: usize,
     pub sort: usize,
@@ -117,47 +112,31 @@ pub struct Places {
     pub size: u8,
 }
 
-const NOWHERE: Places = Places {
-    name: 0,
-    sort: 0,
-    value: 0,
-    end: 0,
-    size: 0,
-};
-
-// The entry that begins at a place.
-pub fn entry_at(text: &[u8], at: usize) -> Places
+// The entry that begins at a place, where one does.
+pub fn entry_at(text: &[u8], at: usize) -> Option<Places>
     requires { at ≤ length text.now }
     ensures { EntryAt text.now at result }
 {
-    let Passed::After(name) = pass(text, at, 0, 2) else {
-        return NOWHERE;
-    };
-    let Passed::After(sort) = pass(text, name, 2, 8) else {
-        return NOWHERE;
-    };
-    let Passed::After(value) = pass(text, sort, 8, 10) else {
-        return NOWHERE;
-    };
-    if let Passed::After(end) = pass(text, value, 10, 12) {
-        return Places {
+    let name = pass(text, at, 0, 2)?;
+    let sort = pass(text, name, 2, 8)?;
+    let value = pass(text, sort, 8, 10)?;
+    if let Some(end) = pass(text, value, 10, 12) {
+        return Some(Places {
             name,
             sort,
             value,
             end,
             size: 12,
-        };
+        });
     }
-    let Passed::After(end) = pass(text, value, 12, 18) else {
-        return NOWHERE;
-    };
-    Places {
+    let end = pass(text, value, 12, 18)?;
+    Some(Places {
         name,
         sort,
         value,
         end,
         size: 16,
-    }
+    })
 }
 
 // The name that stands at a place, and the width of a sort.
@@ -168,6 +147,7 @@ pub fn name_at(text: &[u8], at: usize) -> &[u8]
     inside(first_token(text, at))
 }
 
+// (It and name_at differ in one call and in what they answer, two lines each: no plainer as one.)
 fn sort_at(text: &[u8], at: usize) -> u64
     requires { at ≤ length text.now }
     ensures { result ≡ width_said (slice_index_or (tokens (drop at text.now)) 0 []) }
@@ -176,6 +156,7 @@ fn sort_at(text: &[u8], at: usize) -> u64
 }
 
 // The value that stands at a place, with its own width.
+#[tactic(auto, unfolding(crate::specs::Entries::value_width, crate::specs::Entries::fits))]
 fn value_width(text: &[u8], at: usize) -> u64
     requires { at ≤ length text.now }
     ensures { result ≡ value_width (tokens (drop at text.now)) }
@@ -187,58 +168,32 @@ fn value_width(text: &[u8], at: usize) -> u64
     width_said(token(text, at, 3))
 }
 
-fn value_at(text: &[u8], at: usize) -> Number
+#[tactic(auto, using(crate::specs::laws::Numbers::literal_base), unfolding(crate::specs::Entries::value_said, crate::specs::Entries::fits))]
+fn value_at(text: &[u8], at: usize) -> Option<u64>
     requires { at ≤ length text.now }
     ensures { result ≡ numbered (value_said (tokens (drop at text.now))) }
 {
     let t = first_token(text, at);
     if 0 < literal_width(t) {
-        let base = base_of(t);
-        return value_in(beyond(t), base);
+        return value_in(beyond(t), base_of(t));
     }
-    let d = token(text, at, 2);
-    value_in(beyond(d), 10)
+    value_in(beyond(token(text, at, 2)), 10)
 }
 
-// Whether a number is too large for a width.
-fn overflow(n: Number, w: u64) -> bool
-    requires { w ≤ 64 }
-    ensures { result ≡ overflows n w }
-{
-    let Number::Small(v) = n else {
-        return true;
-    };
-    over_width(v, w as u8)
-}
-
-// A number itself; 0 where 64 bits do not hold it.
-fn word_of(n: Number) -> u64
-    ensures { result ≡ small n }
-{
-    match n {
-        Number::Small(v) => v,
-        Number::Huge => 0,
-    }
-}
-
-// What an entry says to a variable: 34, whether it does not fit, and its value.
-#[derive(Clone, Copy)]
-pub struct Item {
-    pub unfit: bool,
-    pub word: u64,
-}
-
-// What the sort and the value at two places say to a variable of so many bits.
-pub fn item_at(text: &[u8], sort: usize, value: usize, w: u8) -> Item
+// The word that the sort and the value at two places give to a variable of so many bits; by `Err`, where they do not fit it (34).
+// It is the value itself; 0 where 64 bits do not hold that.
+pub fn item_at(text: &[u8], sort: usize, value: usize, w: u8) -> Result<u64, u64>
     requires { (sort ≤ length text.now) × (value ≤ length text.now) }
-    ensures { ItemAt text.now sort value w result }
+    ensures { result ≡ item_said text.now sort value w }
 {
-    let wide = w as u64;
-    let said = value_width(text, value);
-    let n = value_at(text, value);
-    let unfit = (sort_at(text, sort) != wide) | (said != wide) | overflow(n, said);
-    let word = word_of(n);
-    Item { unfit, word }
+    let Some(word) = value_at(text, value) else {
+        return Err(0);
+    };
+    let wide = u64::from(w);
+    let fits = (sort_at(text, sort) == wide)
+        & (value_width(text, value) == wide)
+        & !over_width(word, w);
+    if fits { Ok(word) } else { Err(word) }
 }
 
 // Whether no token is left from a place on.
@@ -260,17 +215,15 @@ pub fn body_start(text: &[u8]) -> usize
 }
 
 // Where they end.
+// (A `while let`: how many entries there are is not known before.)
 fn entries_end(text: &[u8]) -> usize
     ensures { Ends text.now result }
 {
     let mut at = body_start(text);
-    loop {
-        let entry = entry_at(text, at);
-        if entry.size == 0 {
-            return at;
-        }
+    while let Some(entry) = entry_at(text, at) {
         at = entry.end;
     }
+    at
 }
 
 // 31: whether a text is a get-model answer.

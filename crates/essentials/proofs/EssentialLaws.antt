@@ -1,20 +1,18 @@
 -- Laws of essential positions: of one, of two, and of the positions of `if`.
-use mathlib.Core.Path.{◌≡◌, refl, sym, ap, ◌∙◌, subst}
-use mathlib.Core.Bool.{Bool, true, false, not, ◌||◌}
+use Rattle.std.specs.Prelude.{Option, Some, None, is_some, ◌||◌}
+use mathlib.Core.Path.{◌≡◌, refl, sym, ap, ◌∙◌}
+use mathlib.Core.Bool.{Bool, true, false, not}
 use mathlib.Core.Logic.{◌⊎◌, inl, inr, ⊎_elim}
-use Prim.Native.Nat.{ℕ, ◌-◌, ◌/◌, ◌%◌, ◌^◌, ◌≤◌, ◌<◌}
+use Prim.Native.Nat.{ℕ, ◌-◌, ◌^◌, ◌≤◌, ◌<◌}
 use native.Mathlib.Nat.{le_of_lt}
 use native.Mathlib.Omega.{arith}
 use lib.Dec.{eqb}
-use Rattle.words.specs.declared.found.Found.{Found}
-use Rattle.words.specs.declared.found.Found.TheVariants.{At, Nothing}
 use Rattle.words.specs.Agree.{Agrees}
 use Rattle.words.specs.laws.Agree.{agrees_lt}
 use Rattle.words.specs.inner.Decides.{Decides}
 use Rattle.words.specs.laws.Decides.{decides_same, decides_not, decides_eq}
 use Rattle.words.specs.Pick.{Empty, Picked}
 use Rattle.words.specs.laws.Pick.{pick_member}
-use Rattle.operators.specs.Meaning.{extended}
 use Rattle.picking.specs.declared.spot.Three.{Three}
 use Rattle.picking.specs.declared.spot.Spot.{Spot}
 use Rattle.picking.specs.Spot.{at, put, positions, value, held_to_pairs, Inverse, Reaches, Essential, Fair, Asked}
@@ -24,35 +22,27 @@ use Rattle.essentials.specs.inner.Asks.{Alone}
 use Rattle.picking.specs.laws.If.{condition_to, condition_back, branch_to, branch_back}
 use Rattle.picking.specs.laws.Fair.{slot_lt, count_at, rule_at, slot_at}
 
--- ---- tests
-pub decides_or : (A B : Type 0) (a b : Bool) → Decides A a → Decides B b → Decides (A ⊎ B) (a || b)
-decides_or A B true b p q = inl p
-decides_or A B false true p q = inr q
-decides_or A B false false p q = ⊎_elim p q
-
 -- ---- of one position, as not, extract and sign extension have: no others can help
 module _ (S : Spot) (F : Fair S) where
   -- what code asks of the operator, and what it is told
   pub not_fits : S.kind ≡ 2 → S.current.a < 2 ^ S.width
   not_fits e = rw (rule_at F e) at (slot_lt (slot_at F e 0 (omega arith)))
 
-  pub not_value : S.kind ≡ 2 → (2 ^ S.width - 1) - S.current.a ≡ value S S.current
-  not_value e = rw e
-
-  pub extract_fits : S.kind ≡ 13 → S.low < 64
-  extract_fits e = omega (arith, rule_at F e, (slot_at F e 0 (omega arith)).wide, F.some)
-
-  pub extract_value : S.kind ≡ 13 → S.current.a / 2 ^ S.low % 2 ^ S.width ≡ value S S.current
-  extract_value e = rw e
-
   pub sext_fits : S.kind ≡ 16 → (1 ≤ S.widths.a) × (S.widths.a ≤ S.width) × (S.width ≤ 64) × (S.current.a < 2 ^ S.widths.a)
   sext_fits e = let s = slot_at F e 0 (omega arith) in (s.some, le_of_lt (rule_at F e), F.wide, slot_lt s)
 
-  pub sext_value : S.kind ≡ 16 → extended S.widths.a S.width S.current.a ≡ value S S.current
-  sext_value e = rw e
-
   pub alone_one : Alone S.kind → positions S ≡ 1
   alone_one = ⊎_elim (count_at F) (⊎_elim (count_at F) (count_at F))
+
+-- a test of what agrees, with the pair as it was read
+pub decides_read : {l h x y : ℕ} (t : ℕ) (b : Bool) → l ≡ x → h ≡ y → Decides (Agrees l h t) b → Decides (Agrees x y t) b
+decides_read t b e f d = rw (e, f) at d
+
+-- a test of either
+pub decides_either : (A B : Type 0) (a b : Bool) → Decides A a → Decides B b → Decides (A ⊎ B) (a || b)
+decides_either A B true b p q = inl p
+decides_either A B false true p q = inr q
+decides_either A B false false p q = ⊎_elim p q
 
 -- the last of the three kinds
 pub third : {n : ℕ} → Alone n → (n ≡ 2 → ⊥) → (n ≡ 13 → ⊥) → n ≡ 16
@@ -92,14 +82,11 @@ module _ (S : Spot) (t i : ℕ) (two : positions S ≡ 2) (h : i < 2) where
       (sym (swapped (put S.current (1 - i) v)) ∙ ap (λ (n : ℕ). value S (put S.current (1 - i) n)) (at_put_same S.current (1 - i) v (omega arith)) ∙ m.gives)
 
 -- as code finds it out, by a pick at the other position
-pub two_told : {S : Spot} {t i : ℕ} → Asked S i t → positions S ≡ 2 → (r : Found) → Picked (Inverse S t (1 - i)) 0 r → (r ≡ Nothing → Essential S t i) × ((v : ℕ) → r ≡ At v → Essential S t i → ⊥)
-two_told {S} {t} {i} A two r k = (
-  (λ e. two_yes S t i two here (subst (Picked (Inverse S t (1 - i)) 0) e k)),
-  (λ v e. two_no S t i two here v (pick_member (subst (Picked (Inverse S t (1 - i)) 0) e k))),
-)
-  where
-    here : i < 2
-    here = rw two at A.position
+pub two_told : {S : Spot} {t i : ℕ} → Asked S i t → positions S ≡ 2 → (r : Option ℕ) → Picked (Inverse S t (1 - i)) 0 r → (b : Bool) → is_some r ≡ not b → Decides (Essential S t i) b
+two_told {S} {t} {i} A two None k true e = two_yes S t i two (rw two at A.position) k
+two_told {S} {t} {i} A two (Some v) k false e = two_no S t i two (rw two at A.position) v (pick_member k)
+two_told A two None k false e = cc
+two_told A two (Some v) k true e = cc
 
 -- ---- of a kind that is held to pairs: what the current value does not reach with them
 held_essential : (S : Spot) (t i : ℕ) → Fair S → held_to_pairs S.kind ≡ true → (b : Bool) → Decides (Reaches S t i (at S.current i)) b → Decides (Essential S t i) (not b)

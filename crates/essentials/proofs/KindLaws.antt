@@ -1,21 +1,14 @@
 -- The kinds that are left beside the arms of a match: each law is one computed test over the kinds from 2 on.
 use mathlib.Core.Path.{◌≡◌, refl, sym}
-use mathlib.Core.Bool.{false}
 use mathlib.Core.Logic.{◌⊎◌, inl, inr}
 use mathlib.Core.List.{List, [], ◌∷◌}
 use Prim.Native.Nat.{ℕ, ◌≤◌, ◌<◌}
-use Rattle.operators.specs.Table.{kind_count, shape_of}
-use Rattle.operators.specs.laws.Table.{Without, left_over, counted}
-use Rattle.picking.specs.declared.spot.Spot.{Spot}
-use Rattle.picking.specs.Spot.{Fair}
+use Rattle.operators.specs.Table.{shape_of}
+use Rattle.operators.specs.laws.Table.{Without, counted}
 
 -- the single keys of the arms, the last first
 abbrev pub essential_arms : List (List ℕ)
 essential_arms = (12 ∷ 17 ∷ []) ∷ (11 ∷ []) ∷ (2 ∷ 13 ∷ 16 ∷ []) ∷ []
-
--- no kind of a spot is past what the arms and the ranges up to lo take
-pub no_essential_left : {S : Spot} → Fair S → 16 ≤ S.kind → Without essential_arms S.kind → ⊥
-no_essential_left {S} F l = left_over 16 kind_count essential_arms (λ x. false) tt S.kind l F.kind_below
 
 -- the kinds of two positions: by their keys, or by what a range leaves
 pub two_told : {n : ℕ} → (n ≡ 12) ⊎ (n ≡ 17) → (shape_of n).operands ≡ 2

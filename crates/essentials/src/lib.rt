@@ -2,29 +2,29 @@
 // current value.
 #![tactic(auto)]
 
-ghost use Rattle.std.specs.Prelude.{◌≡◌, ◌^◌, ◌≤◌, ◌<◌};
+ghost use Rattle.std.specs.Prelude.{◌≡◌, ◌-◌, ◌^◌, ◌≤◌, ◌<◌};
 ghost use Rattle.words.specs.inner.Decides.{Decides};
-ghost use Rattle.picking.specs.Spot.{positions, value, Fair, Essential, Asked};
+ghost use Rattle.picking.specs.Spot.{at as standing, positions, value, Fair, Essential, Asked};
 ghost use Rattle.picking.specs.inner.Asks.{Had};
 ghost use Rattle.essentials.specs.inner.Marks.{Marks, mark};
 ghost use Rattle.essentials.specs.inner.Asks.{Alone};
 
+use operators::{KINDS, kind};
 use picking::{Spot, at, branch, some_inverse};
-use words::Found;
 
 // What a kind of one position gives on its current value.
 fn value_now(s: Spot) -> u64
     requires { Fair s × Alone s.kind }
     ensures { result ≡ value s s.current }
 {
-    let now = s.current;
-    if s.kind == 2 {
-        return operators::flip(now.a, s.width);
+    let a = s.current.a;
+    if s.kind == kind::NOT {
+        operators::flip(a, s.width)
+    } else if s.kind == kind::EXTRACT {
+        operators::part(a, s.low, s.width)
+    } else {
+        operators::extend(a, s.widths.a as u32, s.width)
     }
-    if s.kind == 13 {
-        return operators::part(now.a, s.low, s.width);
-    }
-    operators::extend(now.a, s.widths.a as u32, s.width)
 }
 
 // The one position of not, extract and sign extension is essential exactly if its current value does not give t.
@@ -40,51 +40,38 @@ fn essential_of_two(s: Spot, i: u32, t: u64) -> bool
     requires { Asked s i t × (positions s ≡ 2) }
     ensures { Decides (Essential s t i) result }
 {
-    let Found::At(_) = some_inverse(s, 1 - i, t) else {
-        return true;
-    };
-    false
+    some_inverse(s, 1 - i, t).is_none()
 }
 
-// Whether t can be had from an `if` of which one branch keeps its value: taken, or the other way with a value that agrees.
-fn had(lo: u64, hi: u64, way: u64, kept: u64, l: u64, h: u64, t: u64) -> bool
-    requires { way ≤ 1 }
-    ensures { Decides (Had lo hi way kept l h t) result }
+// Whether t can be had from an `if` whose branch i keeps its value: with that one taken, where the condition is 2 - i, or with the
+// other one, 3 - i, and a value of it that agrees.
+fn had(s: Spot, i: u32, t: u64) -> bool
+    requires { (1 ≤ i) × (i < 3) }
+    ensures { Decides (Had s.los.a s.his.a (2 - i) (standing s.current i) (standing s.los (3 - i)) (standing s.his (3 - i)) t) result }
 {
-    (words::agrees(way, lo, hi) & (kept == t))
-        | (words::agrees(1 - way, lo, hi) & words::agrees(t, l, h))
+    let way = u64::from(2 - i);
+    let l = at(s.los, 3 - i);
+    let h = at(s.his, 3 - i);
+    (words::agrees(way, s.los.a, s.his.a) & (at(s.current, i) == t))
+        | (words::agrees(1 - way, s.los.a, s.his.a) & words::agrees(t, l, h))
 }
 
 // The condition is essential exactly if t does not agree with the branch that it takes now.
+// (That it is an `if` is a short clause, here and below: a type for it would be made for this one call.)
 fn essential_condition(s: Spot, t: u64) -> bool
     requires { Fair s × (s.kind ≡ 11) }
     ensures { Decides (Essential s t 0) result }
 {
-    let los = s.los;
-    let his = s.his;
-    let now = s.current;
-    let j = branch(now.a);
-    !words::agrees(t, at(los, j), at(his, j))
+    let j = branch(s.current.a);
+    !words::agrees(t, at(s.los, j), at(s.his, j))
 }
 
-// Branch i is taken where the condition is 2 - i; the other branch is 3 - i.
+// A branch is essential exactly if t cannot be had while it keeps its value.
 fn essential_branch(s: Spot, i: u32, t: u64) -> bool
     requires { Fair s × (s.kind ≡ 11) × (1 ≤ i) × (i < 3) }
     ensures { Decides (Essential s t i) result }
 {
-    let los = s.los;
-    let his = s.his;
-    let now = s.current;
-    let j = 3 - i;
-    !had(
-        los.a,
-        his.a,
-        (2 - i) as u64,
-        at(now, i),
-        at(los, j),
-        at(his, j),
-        t,
-    )
+    !had(s, i, t)
 }
 
 fn essential_of_if(s: Spot, i: u32, t: u64) -> bool
@@ -92,21 +79,22 @@ fn essential_of_if(s: Spot, i: u32, t: u64) -> bool
     ensures { Decides (Essential s t i) result }
 {
     if i == 0 {
-        return essential_condition(s, t);
+        essential_condition(s, t)
+    } else {
+        essential_branch(s, i, t)
     }
-    essential_branch(s, i, t)
 }
 
 pub fn essential(s: Spot, i: u32, t: u64) -> bool
     requires { Asked s i t }
     ensures { Decides (Essential s t i) result }
 {
-    let kind = s.kind;
-    match kind {
-        2 | 13 | 16 => essential_alone(s, t),
-        11 => essential_of_if(s, i, t),
-        3..=10 | 12 | 14..=15 | 17 => essential_of_two(s, i, t),
-        0..=1 | 18..=255 => false,
+    match s.kind {
+        kind::NOT | kind::EXTRACT | kind::SEXT => essential_alone(s, t),
+        kind::IF => essential_of_if(s, i, t),
+        kind::AND..=kind::BELOW | kind::CONCAT | kind::SLT..=kind::ASHR | kind::UDIV =>
+            essential_of_two(s, i, t),
+        kind::VARIABLE..=kind::CONSTANT | KINDS..=u8::MAX => false,
     }
 }
 
@@ -114,7 +102,7 @@ pub fn essential(s: Spot, i: u32, t: u64) -> bool
 pub fn marks(a: bool, b: bool, c: bool) -> u32
     ensures { result ≡ mark a b c }
 {
-    (a as u32) + 2 * (b as u32) + 4 * (c as u32)
+    u32::from(a) + 2 * u32::from(b) + 4 * u32::from(c)
 }
 
 // The essential positions, each a bit. What the kind is, is asked once.
@@ -122,19 +110,18 @@ pub fn essential_positions(s: Spot, t: u64) -> u32
     requires { Fair s × (t < 2 ^ s.width) }
     ensures { Marks (Essential s t) (positions s) result }
 {
-    let kind = s.kind;
-    match kind {
-        2 | 13 | 16 => marks(essential_alone(s, t), false, false),
-        11 => marks(
+    match s.kind {
+        kind::NOT | kind::EXTRACT | kind::SEXT => marks(essential_alone(s, t), false, false),
+        kind::IF => marks(
             essential_condition(s, t),
             essential_branch(s, 1, t),
             essential_branch(s, 2, t),
         ),
-        3..=10 | 12 | 14..=15 | 17 => marks(
+        kind::AND..=kind::BELOW | kind::CONCAT | kind::SLT..=kind::ASHR | kind::UDIV => marks(
             essential_of_two(s, 0, t),
             essential_of_two(s, 1, t),
             false,
         ),
-        0..=1 | 18..=255 => 0,
+        kind::VARIABLE..=kind::CONSTANT | KINDS..=u8::MAX => 0,
     }
 }

@@ -4,6 +4,8 @@
 mod above;
 mod pass;
 mod readers;
+mod view;
 
 pub use above::{evaluate, evaluate_above};
 pub use readers::index_readers;
+pub use view::Readers;

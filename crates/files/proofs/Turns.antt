@@ -1,5 +1,5 @@
 -- Loops that lay a list one element, or one line, at a time: what a turn adds, and what is laid at the end.
-use mathlib.Core.Path.{◌≡◌, sym, ap, ◌∙◌}
+use mathlib.Core.Path.{◌≡◌, refl, sym, ap, ◌∙◌}
 use mathlib.Core.List.{List, [], ◌∷◌, ◌++◌}
 use mathlib.Core.Logic.{⊎_elim}
 use Prim.Native.Nat.{ℕ, zero, suc, ◌+◌, ◌-◌, ◌*◌, ◌/◌, ◌≤◌, ◌<◌, min}
@@ -7,37 +7,34 @@ use native.Mathlib.Omega.{arith}
 use native.Mathlib.Numerals.{add-one}
 use native.Mathlib.Nat.{eq-zero-or-pos, add-zero, add-suc}
 use lib.ListN.{length, get_or, take, set}
-use lib.Seq.{take-suc, take_all}
+use lib.Seq.{take-suc}
 use Rattle.problem.specs.Layout.{le64}
+use Rattle.files.specs.declared.text.Text.{Text}
 use Rattle.files.specs.Laid.{over, Laid}
+use Rattle.files.specs.inner.Told.{Puts}
 use Rattle.files.specs.Words.{words_below, words_of, file_words}
 use Rattle.files.specs.Text.{node_line, lines_below}
 use Rattle.files.specs.laws.Enough.{length_words}
-use Rattle.files.specs.laws.Laid.{over_length, over_past, over_append, laid_one, laid_more, laid_taken}
+use Rattle.files.specs.laws.Laid.{over_length, over_past, over_append, laid_none, laid_one, laid_more, laid_taken}
 
--- ---- the bytes of a text
+-- ---- pieces of text
 
+pub puts_none : (t : Text) → Puts [] t t
+puts_none t = record { text = laid_none _ _ t.inside; same = refl }
+
+pub puts_more : {xs ys : List ℕ} {a b c : Text} → Puts xs a b → Puts ys b c → Puts (xs ++ ys) a c
+puts_more p q = record { text = laid_more p.text q.text; same = q.same ∙ p.same }
+
+-- the bytes of a text
 pub bytes_turn :
-    (xs : List ℕ) {b c d : List ℕ} {at m n : ℕ} (i : ℕ)
-    → Laid (take i xs) at b c m
-    → Laid (get_or xs i 0 ∷ []) m c d n
-    → i < length xs
-    → Laid (take (i + 1) xs) at b d n
-bytes_turn xs i l k h = rw (add-one, take-suc xs i 0) (laid_more l k)
+    (xs : List ℕ) (i : ℕ) {a b c : Text} → Puts (take i xs) a b → Puts (get_or xs i 0 ∷ []) b c → i < length xs → Puts (take (i + 1) xs) a c
+bytes_turn xs i p q h = rw (add-one, take-suc xs i 0) (puts_more p q)
 
-pub bytes_end :
-    (xs : List ℕ) {b c : List ℕ} {at m : ℕ} (i : ℕ) → Laid (take i xs) at b c m → length xs ≤ i → Laid xs at b c m
-bytes_end xs i l h = rw (take_all i xs h) at l
-
--- ---- the variables' lines
-
+-- the variables' lines
 pub lines_turn :
-    (s vs : List ℕ) {b c d : List ℕ} {at m n : ℕ} (i : ℕ)
-    → Laid (lines_below s vs i) at b c m
-    → Laid (node_line s vs i) m c d n
-    → Laid (lines_below s vs (i + 1)) at b d n
+    (s vs : List ℕ) (i : ℕ) {a b c : Text} → Puts (lines_below s vs i) a b → Puts (node_line s vs i) b c → Puts (lines_below s vs (i + 1)) a c
 unfolding lines_below
-lines_turn s vs i l k = rw add-one (laid_more l k)
+lines_turn s vs i p q = rw add-one (puts_more p q)
 
 -- ---- the words of a file
 

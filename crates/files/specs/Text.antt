@@ -3,7 +3,6 @@
 use Rattle.std.specs.Prelude.{cond, List, [], ◌∷◌, ◌++◌, ℕ, zero, suc, ◌+◌, ◌/◌, ◌%◌, ltb, eqb, get_or}
 use Prim.Native.Char.{code}
 use Prim.Native.String.{String}
-use Prim.Native.String as String
 use Rattle.problem.specs.Layout.{node_count, node_at}
 use Rattle.search.specs.declared.Verdict.{Verdict}
 use Rattle.search.specs.declared.Outcome.{Outcome}

@@ -15,13 +15,13 @@ use lines::text_of;
 pub use numbers::{budget_of, tape_of, words_of};
 use search::run;
 
-// "`problem.tbv` (at most 25,098 bytes of it)": one more than the longest that is accepted.
+/// "`problem.tbv` (at most 25,098 bytes of it)": one more than the longest that is accepted.
 pub const PROBLEM_ROOM: usize = 25098;
 
-// The bytes of 1,024 words: `start.bin`'s "at most 1,024", and of `tape.bin` the budget and "up to 1,023 further words".
+/// The bytes of 1,024 words: `start.bin`'s "at most 1,024", and of `tape.bin` the budget and "up to 1,023 further words".
 pub const WORDS_ROOM: usize = 8192;
 
-// Room for the longest text (specs/laws/Whole).
+/// Room for the longest text (specs/laws/Whole).
 pub const TEXT_ROOM: usize = 43104;
 
 // Runs the problem from the values lent, with the words of `tape.bin`, and puts the answer's lines at the start of out.
@@ -47,14 +47,12 @@ fn tell_files(problem: &[u8], start: &[u8], tape: &[u8], out: &mut [u8]) -> usiz
 fn front(s: &[u8], n: usize) -> &[u8]
     ensures { result.now ≡ take n s.now }
 {
-    if n < s.len() {
-        return &s[..n];
-    }
-    s
+    &s[..n.min(s.len())]
 }
 
-// Puts what `tvrun` prints, from what was read of its three files (so many bytes of each), at the start of out, and answers how
-// many bytes that is. The whole text has room.
+/// Puts what `tvrun` prints, from what was read of its three files (so many bytes of each), at the start of out, and answers how
+/// many bytes that is. The whole text has room.
+// (Arrays with their lengths beside them, 7 parameters: `Prints` and `output_determined` speak of the places that were read into.)
 pub fn output(
     problem: &[u8; PROBLEM_ROOM],
     p: usize,

@@ -1,90 +1,91 @@
 // The lines of an answer, as document 01 has `tvrun` print them.
-ghost use Rattle.std.specs.Prelude.{◌≡◌, ◌+◌, ◌*◌, ◌≤◌, length, get_or};
-ghost use Rattle.files.specs.Laid.{Laid};
+ghost use Rattle.std.specs.Prelude.{◌≡◌, ◌+◌, ◌*◌, ◌≤◌, length};
 ghost use Rattle.search.specs.declared.Outcome.TheVariants.{Refused};
+ghost use Rattle.files.specs.Laid.{Laid};
 ghost use Rattle.files.specs.Text.{name_of, refused_line, verdict_line, variable_line, node_line, lines_below, printed};
-ghost use Rattle.files.specs.inner.Told.{NodesThere};
+ghost use Rattle.files.specs.inner.Told.{NodesThere, Puts};
 
-use crate::text::{put_bytes, put_decimal, put_labelled};
+use crate::text::Text;
+use operators::kind;
 use problem::{Refusal, node_at, node_count};
 use search::{Answer, Outcome, Verdict};
 
 // `refused NUMBER at PLACE`
-fn put_refusal(out: &mut [u8], refusal: Refusal) -> usize
-    ensures { Laid (refused_line (Refused refusal)) 0 out.old out.new result }
+fn put_refusal(text: &mut Text, refusal: Refusal)
+    ensures { Puts (refused_line (Refused refusal)) text.old text.new }
 {
-    let next = put_labelled(out, 0, b"refused ", refusal.number as u64);
-    let next = put_labelled(out, next, b" at ", refusal.place as u64);
-    put_bytes(out, next, b"\n")
+    text.put_labelled(b"refused ", u64::from(refusal.number));
+    text.put_labelled(b" at ", u64::from(refusal.place));
+    text.put(b"\n");
 }
 
 // The verdict's name.
-fn put_name(out: &mut [u8], at: usize, verdict: Verdict) -> usize
-    requires { at ≤ length out.old }
-    ensures { Laid (name_of verdict) at out.old out.new result }
+fn name(verdict: Verdict) -> &'static [u8]
+    ensures { result.now ≡ name_of verdict }
 {
     match verdict {
-        Verdict::Model => put_bytes(out, at, b"model"),
-        Verdict::Spent => put_bytes(out, at, b"spent"),
-        Verdict::Ended => put_bytes(out, at, b"ended"),
-        Verdict::Closed => put_bytes(out, at, b"closed"),
+        Verdict::Model => b"model",
+        Verdict::Spent => b"spent",
+        Verdict::Ended => b"ended",
+        Verdict::Closed => b"closed",
     }
 }
 
 // `verdict NAME moves M steps S words W`
-fn put_verdict(out: &mut [u8], answer: Answer, verdict: Verdict) -> usize
-    ensures { Laid (verdict_line answer verdict) 0 out.old out.new result }
+fn put_verdict(text: &mut Text, answer: Answer, verdict: Verdict)
+    ensures { Puts (verdict_line answer verdict) text.old text.new }
 {
-    let next = put_bytes(out, 0, b"verdict ");
-    let next = put_name(out, next, verdict);
-    let next = put_labelled(out, next, b" moves ", answer.moves);
-    let next = put_labelled(out, next, b" steps ", answer.steps);
-    let next = put_labelled(out, next, b" words ", answer.words);
-    put_bytes(out, next, b"\n")
+    text.put(b"verdict ");
+    text.put(name(verdict));
+    text.put_labelled(b" moves ", answer.moves);
+    text.put_labelled(b" steps ", answer.steps);
+    text.put_labelled(b" words ", answer.words);
+    text.put(b"\n");
 }
 
 // `ID VALUE`
-fn put_variable(out: &mut [u8], at: usize, id: u16, value: u64) -> usize
-    requires { at ≤ length out.old }
-    ensures { Laid (variable_line id value) at out.old out.new result }
+fn put_variable(text: &mut Text, id: u16, value: u64)
+    ensures { Puts (variable_line id value) text.old text.new }
 {
-    let next = put_decimal(out, at, id as u64);
-    let next = put_labelled(out, next, b" ", value);
-    put_bytes(out, next, b"\n")
+    text.put_decimal(u64::from(id));
+    text.put_labelled(b" ", value);
+    text.put(b"\n");
 }
 
-// The value at place i, and 0 where no place is.
-fn value_at(values: &[u64], i: u16) -> u64
-    ensures { result ≡ get_or values.now i 0 }
+// Node i's line: a variable has one, with 0 where there is no place for its value.
+// (A problem's bytes and values as they are lent, here and below: a refused problem has no view.)
+fn put_node(text: &mut Text, problem: &[u8], values: &[u64], i: u16)
+    requires { 9 + 24 * i + 24 ≤ length problem.now }
+    ensures { Puts (node_line problem.now values.now i) text.old text.new }
 {
-    let at = i as usize;
-    if at < values.len() { values[at] } else { 0 }
-}
-
-// Node i's line: a variable has one.
-fn put_node(out: &mut [u8], at: usize, problem: &[u8], values: &[u64], i: u16) -> usize
-    requires { (at ≤ length out.old) × (9 + 24 * i + 24 ≤ length problem.now) }
-    ensures { Laid (node_line problem.now values.now i) at out.old out.new result }
-{
-    let node = node_at(problem, i);
-    if node.kind == 0 {
-        return put_variable(out, at, i, value_at(values, i));
+    if node_at(problem, i).kind == kind::VARIABLE {
+        let value = values.get(usize::from(i)).copied().unwrap_or(0);
+        put_variable(text, i, value);
     }
-    at
 }
 
 // The lines of all variables, by id.
-fn put_nodes(out: &mut [u8], at: usize, problem: &[u8], values: &[u64], count: u16) -> usize
-    requires { (at ≤ length out.old) × (9 + 24 * count ≤ length problem.now) }
-    ensures { Laid (lines_below problem.now values.now count) at out.old out.new result }
+fn put_nodes(text: &mut Text, problem: &[u8], values: &[u64], count: u16)
+    requires { 9 + 24 * count ≤ length problem.now }
+    ensures { Puts (lines_below problem.now values.now count) text.old text.new }
 {
-    let mut next = at;
-    let mut i: u16 = 0;
-    while i < count {
-        next = put_node(out, next, problem, values, i);
-        i += 1;
+    for i in 0..count {
+        put_node(text, problem, values, i);
     }
-    next
+}
+
+// What is printed of an answer.
+fn put_answer(text: &mut Text, problem: &[u8], values: &[u64], answer: Answer)
+    requires { NodesThere problem.now answer }
+    ensures { Puts (printed problem.now values.now answer) text.old text.new }
+{
+    match answer.outcome {
+        Outcome::Refused(refusal) => put_refusal(text, refusal),
+        Outcome::Settled(verdict) => {
+            put_verdict(text, answer, verdict);
+            put_nodes(text, problem, values, node_count(problem));
+        }
+    }
 }
 
 // Puts what is printed of an answer at the start of out, as much of it as fits, and answers how many bytes that is.
@@ -92,12 +93,7 @@ pub(crate) fn text_of(problem: &[u8], values: &[u64], answer: Answer, out: &mut 
     requires { NodesThere problem.now answer }
     ensures { Laid (printed problem.now values.now answer) 0 out.old out.new result }
 {
-    let outcome = answer.outcome;
-    match outcome {
-        Outcome::Refused(refusal) => put_refusal(out, refusal),
-        Outcome::Settled(verdict) => {
-            let next = put_verdict(out, answer, verdict);
-            put_nodes(out, next, problem, values, node_count(problem))
-        }
-    }
+    let mut text = Text { out, used: 0 };
+    put_answer(&mut text, problem, values, answer);
+    text.used
 }

@@ -1,51 +1,56 @@
-// Text put into a lent buffer from a place on: each function answers the next place, and stops at the buffer's end.
-ghost use Rattle.std.specs.Prelude.{[], ◌∷◌, ◌++◌, ◌≤◌, length};
-ghost use Rattle.files.specs.Laid.{Laid};
-ghost use Rattle.files.specs.Text.{decimal};
+// Text put into a lent buffer, one piece after another, as much of it as fits.
+// (Not by `Display` and `fmt::Write`: their contracts say what was written where a write answers `Ok`, and none says that it does.
+// `Prints` promises the whole text.)
+ghost use Rattle.std.specs.Prelude.{◌≤◌, length};
 
-// A byte.
-fn put_byte(out: &mut [u8], at: usize, byte: u8) -> usize
-    requires { at ≤ length out.old }
-    ensures { Laid (byte ∷ []) at out.old out.new result }
-{
-    if at < out.len() {
-        out[at] = byte;
-        return at + 1;
-    }
-    at
+// A buffer, whose first `used` places hold text.
+#[derive(Debug, Drop)]
+pub(crate) struct Text<'a> {
+    pub out: &'a mut [u8],
+    pub used: usize,
+    ghost inside: { used ≤ length out.now },
 }
 
-// A text's bytes.
-pub(crate) fn put_bytes(out: &mut [u8], at: usize, text: &[u8]) -> usize
-    requires { at ≤ length out.old }
-    ensures { Laid text.now at out.old out.new result }
-{
-    let mut next = at;
-    let mut i: usize = 0;
-    while i < text.len() {
-        next = put_byte(out, next, text[i]);
-        i += 1;
-    }
-    next
-}
+impl<'a> Text<'a> {
+    ghost use Rattle.std.specs.Prelude.{[], ◌∷◌, ◌++◌};
+    ghost use Rattle.files.specs.inner.Told.{Puts};
+    ghost use Rattle.files.specs.Text.{decimal};
 
-// A number in decimal.
-pub(crate) fn put_decimal(out: &mut [u8], at: usize, n: u64) -> usize
-    requires { at ≤ length out.old }
-    ensures { Laid (decimal n) at out.old out.new result }
-{
-    if n < 10 {
-        return put_byte(out, at, 48 + (n as u8));
+    // A byte, where there is room.
+    fn put_byte(&mut self, byte: u8)
+        ensures { Puts (byte ∷ []) self.old self.new }
+    {
+        if self.used < self.out.len() {
+            self.out[self.used] = byte;
+            self.used += 1;
+        }
     }
-    let next = put_decimal(out, at, n / 10);
-    put_byte(out, next, 48 + ((n % 10) as u8))
-}
 
-// A text and the number after it.
-pub(crate) fn put_labelled(out: &mut [u8], at: usize, label: &[u8], n: u64) -> usize
-    requires { at ≤ length out.old }
-    ensures { Laid (label.now ++ decimal n) at out.old out.new result }
-{
-    let next = put_bytes(out, at, label);
-    put_decimal(out, next, n)
+    // A text's bytes.
+    // (Byte by byte: what has no room is left out.)
+    pub(crate) fn put(&mut self, text: &[u8])
+        ensures { Puts text.now self.old self.new }
+    {
+        for byte in text {
+            self.put_byte(*byte);
+        }
+    }
+
+    // A number in decimal.
+    pub(crate) fn put_decimal(&mut self, n: u64)
+        ensures { Puts (decimal n) self.old self.new }
+    {
+        if 10 <= n {
+            self.put_decimal(n / 10);
+        }
+        self.put_byte(b'0' + (n % 10) as u8);
+    }
+
+    // A text and the number after it.
+    pub(crate) fn put_labelled(&mut self, label: &[u8], n: u64)
+        ensures { Puts (label.now ++ decimal n) self.old self.new }
+    {
+        self.put(label);
+        self.put_decimal(n);
+    }
 }

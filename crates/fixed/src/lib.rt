@@ -1,22 +1,31 @@
 // The fixed bits of one node (documents 01 and 02), from its operands' pairs.
 #![tactic(auto)]
 
-ghost use Rattle.std.specs.Prelude.{◌≡◌, ◌/◌, ◌%◌, ◌^◌, ◌≤◌, ◌<◌};
+ghost use Rattle.std.specs.Prelude.{◌≡◌, ℕ, ◌/◌, ◌%◌, ◌^◌, ◌≤◌, ◌<◌};
 ghost use Rattle.operators.specs.Table.{kind_of};
 ghost use Rattle.operators.specs.Meaning.{signed_less};
-ghost use Rattle.fixed.specs.Fixed.{pair, any_of, known, lowest, up_to, carries, sum_pair, apart, eq_pair, below_pair, shl_pair, lshr_pair, ite_pair, sign_over, slt_pair, ashr_pair, sext_pair, udiv_pair, pair_of};
+ghost use Rattle.fixed.specs.Fixed.{pair, either, fixed, any_of, known, lowest, up_to, carries, sum_pair, apart, eq_pair, below_pair, ite_pair, sign_over, slt_pair, sext_pair, udiv_pair, pair_of};
 ghost use Rattle.fixed.specs.inner.Pairs.{Ternary, PairsReady};
 
 use operators::{
-    Op, extend, flip, join, left, less_signed, ones, part, quotient, right, right_signed, sum,
+    KINDS, Op, extend, flip, join, kind, left, less_signed, ones, part, quotient, right,
+    right_signed, sum,
 };
 
 // A ternary word: lo has no bit that hi lacks, and a bit is fixed where the two agree.
-#[derive(Clone, Copy)]
+// (No `words::Ternary`: the definitions are of any two words, and most functions here ask nothing of a pair.)
+#[derive(Clone, Copy, Debug, PartialEq, Eq)]
 pub struct Pair {
     pub lo: u64,
     pub hi: u64,
 }
+
+// One bit: fixed at 0, fixed at 1, or free.
+const ZERO: Pair = Pair { lo: 0, hi: 0 };
+
+const ONE: Pair = Pair { lo: 1, hi: 1 };
+
+const FREE: Pair = Pair { lo: 0, hi: 1 };
 
 // All w bits free.
 fn any_of(w: u32) -> Pair
@@ -37,12 +46,13 @@ fn with_free(v: u64, f: u64) -> Pair
 }
 
 // The lowest position free in either, w if there is none.
+// (w, as the definition has it: then all w bits are known.)
 fn lowest_free(p: Pair, q: Pair, w: u32) -> u32
     requires { w ≤ 64 }
     ensures { result ≡ lowest w p q }
 {
     let k = u64::trailing_zeros((p.lo ^ p.hi) | (q.lo ^ q.hi));
-    if k < w { k } else { w }
+    k.min(w)
 }
 
 // The k low bits of v, the others of w free.
@@ -97,12 +107,12 @@ fn eq_pair(p: Pair, q: Pair) -> Pair
 {
     let x = xor_pair(p, q);
     if 0 < x.lo {
-        return Pair { lo: 0, hi: 0 };
+        return ZERO;
     }
     if x.hi == 0 {
-        return Pair { lo: 1, hi: 1 };
+        return ONE;
     }
-    Pair { lo: 0, hi: 1 }
+    FREE
 }
 
 // below: 1 if a's hi is below b's lo, 0 if a's lo is at least b's hi, else free.
@@ -110,40 +120,28 @@ fn below_pair(p: Pair, q: Pair) -> Pair
     ensures { result ≡ below_pair p q }
 {
     if p.hi < q.lo {
-        return Pair { lo: 1, hi: 1 };
+        return ONE;
     }
     if q.hi <= p.lo {
-        return Pair { lo: 0, hi: 0 };
+        return ZERO;
     }
-    Pair { lo: 0, hi: 1 }
+    FREE
 }
 
-// shl: with a fixed amount the shifted pair, else all free.
-fn left_pair(p: Pair, q: Pair, w: u32) -> Pair
-    requires { (1 ≤ w) × (w ≤ 64) }
-    ensures { result ≡ shl_pair w p q }
+// shl, lshr, ashr: with a fixed amount both ends of the pair are shifted by it, else all is free.
+fn shifted_by<F: Fn(u64, u64) -> u64>(p: Pair, q: Pair, w: u32, shift: F) -> Pair
+    ghost by: { ℕ → ℕ → ℕ }
+    requires wide { w ≤ 64 }
+    requires low { F.pre shift p.lo q.lo }
+    requires high { F.pre shift p.hi q.lo }
+    requires shifts { (v s r : _) → F.post shift v s r → r ≡ by v s }
+    ensures { result ≡ either (fixed q) (pair (by p.lo q.lo) (by p.hi q.lo)) (any_of w) }
 {
     let s = q.lo;
     if s == q.hi {
         Pair {
-            lo: left(p.lo, s, w),
-            hi: left(p.hi, s, w),
-        }
-    } else {
-        any_of(w)
-    }
-}
-
-// lshr: with a fixed amount the shifted pair, else all free.
-fn right_pair(p: Pair, q: Pair, w: u32) -> Pair
-    requires { w ≤ 64 }
-    ensures { result ≡ lshr_pair w p q }
-{
-    let s = q.lo;
-    if s == q.hi {
-        Pair {
-            lo: right(p.lo, s),
-            hi: right(p.hi, s),
+            lo: shift(p.lo, s),
+            hi: shift(p.hi, s),
         }
     } else {
         any_of(w)
@@ -156,10 +154,7 @@ fn if_pair(p: Pair, q: Pair, r: Pair) -> Pair
 {
     let s = p.lo;
     if s == p.hi {
-        if s == 0 {
-            return r;
-        }
-        return q;
+        return if s == 0 { r } else { q };
     }
     Pair {
         lo: q.lo & r.lo,
@@ -167,7 +162,8 @@ fn if_pair(p: Pair, q: Pair, r: Pair) -> Pair
     }
 }
 
-// extract: the same part of both.
+// extract: the same part of both. (It and sext_pair differ in the step alone; a step as an argument would ask for its clauses at each
+// call, which is more to read than these lines.)
 fn part_pair(p: Pair, low: u32, w: u32) -> Pair
     requires { (1 ≤ w) × (w ≤ 64) × (low < 64) }
     ensures { result ≡ pair (p.lo / 2 ^ low % 2 ^ w) (p.hi / 2 ^ low % 2 ^ w) }
@@ -200,28 +196,12 @@ fn slt_pair(p: Pair, q: Pair, w: u32) -> Pair
     ensures { result ≡ slt_pair w p q }
 {
     if less_over(p.lo, p.hi, q.hi, q.lo, w) {
-        return Pair { lo: 1, hi: 1 };
+        return ONE;
     }
     if less_over(p.hi, p.lo, q.lo, q.hi, w) {
-        return Pair { lo: 0, hi: 1 };
+        return FREE;
     }
-    Pair { lo: 0, hi: 0 }
-}
-
-// Arithmetic shift: with a fixed amount the shifted pair, else all free.
-fn ashr_pair(p: Pair, q: Pair, w: u32) -> Pair
-    requires { (1 ≤ w) × (w ≤ 64) × Ternary w p }
-    ensures { result ≡ ashr_pair w p q }
-{
-    let s = q.lo;
-    if s == q.hi {
-        Pair {
-            lo: right_signed(p.lo, s, w),
-            hi: right_signed(p.hi, s, w),
-        }
-    } else {
-        any_of(w)
-    }
+    ZERO
 }
 
 // Sign extension from k bits to w.
@@ -240,14 +220,9 @@ fn udiv_pair(p: Pair, q: Pair, w: u32) -> Pair
     requires { w ≤ 64 }
     ensures { result ≡ udiv_pair w p q }
 {
-    let a = p.lo;
-    let b = q.lo;
-    if a == p.hi {
-        if b == q.hi {
-            let v = quotient(a, b, w);
-            return Pair { lo: v, hi: v };
-        }
-        return any_of(w);
+    if p.lo == p.hi && q.lo == q.hi {
+        let v = quotient(p.lo, q.lo, w);
+        return Pair { lo: v, hi: v };
     }
     any_of(w)
 }
@@ -257,37 +232,36 @@ pub fn pair_of(op: Op, p: Pair, q: Pair, r: Pair) -> Pair
     requires { PairsReady op p q r }
     ensures { result ≡ pair_of (kind_of op.kind) op.width op.wa op.wb op.low p q r }
 {
-    let kind = op.kind;
     let w = op.width;
     let j = op.wa;
     let k = op.wb;
     let low = op.low;
-    match kind {
-        2 => Pair {
+    match op.kind {
+        kind::NOT => Pair {
             lo: flip(p.hi, w),
             hi: flip(p.lo, w),
         },
-        3 => Pair {
+        kind::AND => Pair {
             lo: p.lo & q.lo,
             hi: p.hi & q.hi,
         },
-        4 => xor_pair(p, q),
-        5 => sum_pair(p, q, w),
-        6 => low_pair(words::wrapping_mul(p.lo, q.lo), p, q, w),
-        7 => left_pair(p, q, w),
-        8 => right_pair(p, q, w),
-        9 => eq_pair(p, q),
-        10 => below_pair(p, q),
-        11 => if_pair(p, q, r),
-        12 => Pair {
+        kind::XOR => xor_pair(p, q),
+        kind::ADD => sum_pair(p, q, w),
+        kind::MUL => low_pair(words::wrapping_mul(p.lo, q.lo), p, q, w),
+        kind::SHL => shifted_by(p, q, w, |v, s| left(v, s, w)),
+        kind::LSHR => shifted_by(p, q, w, |v, s| right(v, s)),
+        kind::EQ => eq_pair(p, q),
+        kind::BELOW => below_pair(p, q),
+        kind::IF => if_pair(p, q, r),
+        kind::CONCAT => Pair {
             lo: join(p.lo, q.lo, k),
             hi: join(p.hi, q.hi, k),
         },
-        13 => part_pair(p, low, w),
-        14 => slt_pair(p, q, j),
-        15 => ashr_pair(p, q, w),
-        16 => sext_pair(p, j, w),
-        17 => udiv_pair(p, q, w),
-        0..=1 | 18..=255 => Pair { lo: 0, hi: 0 },
+        kind::EXTRACT => part_pair(p, low, w),
+        kind::SLT => slt_pair(p, q, j),
+        kind::ASHR => shifted_by(p, q, w, |v, s| right_signed(v, s, w)),
+        kind::SEXT => sext_pair(p, j, w),
+        kind::UDIV => udiv_pair(p, q, w),
+        kind::VARIABLE..=kind::CONSTANT | KINDS..=u8::MAX => ZERO,
     }
 }

@@ -1,14 +1,14 @@
 -- Document 02, "Frame bench": "calls the search start after start in the order given, and keeps up to 64 solutions with all their node
 -- values".
-use Rattle.std.specs.Prelude.{◌≡◌, List, [], ◌∷◌, ◌++◌, ℕ, suc, ◌+◌, ◌*◌, ◌≤◌, ◌<◌, length, get_or, drop}
+use Rattle.std.specs.Prelude.{Err as Refused, ◌≡◌, List, [], ◌∷◌, ◌++◌, ℕ, suc, ◌+◌, ◌*◌, ◌≤◌, ◌<◌, length, get_or, drop}
 use Rattle.problem.specs.declared.Refusal.{Refusal}
-use Rattle.problem.specs.declared.Checked.TheVariants.{Accepted, Refused}
 use Rattle.problem.specs.Layout.{node_count}
 use Rattle.search.specs.declared.Verdict.TheVariants.{Model}
 use Rattle.search.specs.Answers.{verdict_number, answer_words}
 use Rattle.batches.specs.Batch.{places, Batch}
 use Rattle.frames.specs.declared.Gathered.{Gathered}
 use Rattle.frames.specs.Names.{most, gather_refusals}
+use Rattle.problem.specs.Refusals.{Accepted}
 
 -- two solutions agree "on all named variables"
 abbrev pub Alike : List ℕ → List ℕ → List ℕ → Type 0

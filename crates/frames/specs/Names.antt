@@ -1,8 +1,7 @@
 -- Document 02, "Frame bench": refusals of its call, "after the search's refusals of a whole call". Their place is 0.
 use Rattle.std.specs.Prelude.{Bool, false, not, ◌||◌, List, [], ◌∷◌, ℕ, zero, suc, ◌*◌, eqb, leb, ltb, length, get_or}
-use Rattle.problem.specs.declared.Checked.{Checked}
 use Rattle.problem.specs.Layout.{node_count, node_at}
-use Rattle.problem.specs.Refusals.{first_of, ◌then◌, first_below}
+use Rattle.problem.specs.Refusals.{Checked, first_of, ◌then◌, first_below}
 use Rattle.batches.specs.Batch.{batch_refusals}
 
 -- "keeps up to 64 solutions"

@@ -1,6 +1,5 @@
 -- The keywords of the list, as a table: what each is called and which arguments it takes.
-use Rattle.std.specs.Prelude.{Bool, true, false, cond, List, [], ◌∷◌, map, ℕ, zero, suc, get_or}
-use Prim.Native.String.{String}
+use Rattle.std.specs.Prelude.{cond, List, [], ◌∷◌, ℕ, suc, get_or}
 use Rattle.texts.specs.Runs.{ascii, equal}
 use Rattle.lines.specs.declared.table.Row.{Row}
 use Rattle.lines.specs.declared.table.Makes.{Makes}

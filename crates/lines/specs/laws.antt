@@ -4,4 +4,5 @@ pub mod Mark
 pub mod Word
 pub mod Keys
 pub mod Format
+pub mod Faults
 pub mod Text

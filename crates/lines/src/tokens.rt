@@ -1,4 +1,5 @@
 // The tokens of a line.
+// (A line and a place in it are two parameters: what is answered is a place of the same line, so a view would be taken apart at each call.)
 ghost use Rattle.std.specs.Prelude.{◌≡◌, [], ◌+◌, ◌≤◌, ◌<◌, length, get_or, drop};
 ghost use Rattle.lines.specs.Lines.{tokens, token};
 ghost use Rattle.lines.specs.inner.Places.{token_length, past, After, MarkedAt, Marked, Stored};
@@ -6,17 +7,20 @@ ghost use Rattle.lines.specs.inner.Places.{token_length, past, After, MarkedAt, 
 use texts::{Class, byte_at, run_end};
 
 // Where the token that begins at a place ends; that place itself where a comment begins or the line ends.
+#[tactic(auto, using(crate::specs::laws::Line::end_comment, crate::specs::laws::Line::end_run))]
 fn token_end(line: &[u8], from: usize) -> usize
     requires { from ≤ length line.now }
     ensures { result ≡ from + token_length (drop from line.now) }
 {
-    if byte_at(line, from) == 59 {
-        return from;
+    if byte_at(line, from) == b';' {
+        from
+    } else {
+        run_end(line, from, Class::Solid)
     }
-    run_end(line, from, Class::Solid)
 }
 
 // The place after a token between two places of a line of so many bytes: the line's end where the token is empty, for then there is none.
+#[tactic(auto, unfolding(crate::specs::inner::Places::past))]
 fn past_token(from: usize, end: usize, size: usize) -> usize
     ensures { result ≡ past from end size }
 {
@@ -24,6 +28,7 @@ fn past_token(from: usize, end: usize, size: usize) -> usize
 }
 
 // The first token from a place on; empty where there is none.
+// (Empty and no Option, here and below, as `token` has it: no token is empty.)
 fn first_token(line: &[u8], at: usize) -> &[u8]
     requires { at ≤ length line.now }
     ensures { result.now ≡ get_or (tokens (drop at line.now)) 0 [] }
@@ -56,38 +61,44 @@ fn mark_token(line: &[u8], at: usize, marks: &mut [usize], k: usize) -> usize
 }
 
 // Where the first 12 tokens of a line begin and end: no line of the format has more. One that is missing is empty.
+// (A line and marks: they are written here, and no marked line is asked for; `MarkedLine` holds them after.)
 pub fn mark_tokens(line: &[u8], marks: &mut [usize])
     requires { length marks.old ≡ 24 }
     ensures { Stored line.now marks.old marks.new }
 {
-    let mut at: usize = 0;
-    let mut k: usize = 0;
-    while k < 12 {
+    let mut at = 0;
+    for k in 0..12 {
         at = mark_token(line, at, marks, k);
-        k += 1;
     }
 }
 
-// Token k of a line whose tokens are marked.
-pub fn token_at<'a>(line: &'a [u8], marks: &[usize], k: u8) -> &'a [u8]
-    requires { Marked line.now 12 marks.now × (k < 12) }
-    ensures { result.now ≡ token (tokens line.now) k }
-{
-    let i = 2 * (k as usize);
-    let from = marks[i];
-    let end = marks[i + 1];
-    &line[from..end]
+/// A line with the places where its first 12 tokens begin and end, as `mark_tokens` stores them.
+#[derive(Clone, Copy, Debug)]
+pub struct MarkedLine<'a> {
+    pub text: &'a [u8],
+    pub marks: &'a [usize],
+    ghost marked: { Marked text.now 12 marks.now },
+}
+
+impl<'a> MarkedLine<'a> {
+    /// Token k, empty where there is none.
+    pub fn token_at(self, k: u8) -> &'a [u8]
+        requires { k < 12 }
+        ensures { result.now ≡ token (tokens self.entry.text.now) k }
+    {
+        let i = 2 * usize::from(k);
+        &self.text[self.marks[i]..self.marks[i + 1]]
+    }
 }
 
 // Token k of a line that is read but once; empty where there is none.
+#[tactic(auto, using(crate::specs::laws::Line::token_starts, crate::specs::laws::Line::token_turn, crate::specs::laws::Line::token_found))]
 pub fn token_walk(line: &[u8], k: u8) -> &[u8]
     ensures { result.now ≡ token (tokens line.now) k }
 {
-    let mut at: usize = 0;
-    let mut i: u8 = 0;
-    while i < k {
+    let mut at = 0;
+    for i in 0..k {
         at = after_token(line, at);
-        i += 1;
     }
     first_token(line, at)
 }

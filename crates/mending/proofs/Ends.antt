@@ -2,15 +2,13 @@
 use mathlib.Core.Path.{◌≡◌, refl, sym, ap, ◌∙◌}
 use mathlib.Core.List.{List, ◌∷◌, ◌++◌}
 use native.Mathlib.Nat.{not-suc-le-zero, le_of_suc-le-suc}
-use Prim.Native.Nat.{ℕ, zero, suc, ◌+◌, ◌≤◌}
+use Prim.Native.Nat.{ℕ, zero, suc, ◌≤◌}
 use native.Mathlib.Omega.{arith}
 use lib.ListN.{length, take, drop, replicate, length-append, length-replicate}
-use lib.Seq.{take_at, length-take-le}
+use lib.Seq.{length-take-le}
 use Rattle.problem.specs.declared.Refusal.{Refusal}
-use Rattle.problem.specs.declared.Checked.{Checked}
-use Rattle.problem.specs.declared.Checked.TheVariants.{Accepted, Refused}
 use Rattle.problem.specs.Layout.{node_count}
-use Rattle.problem.specs.Refusals.{◌then◌}
+use Rattle.problem.specs.Refusals.{Checked, Accepted}
 use Rattle.problem.specs.laws.First.{then_accepted, then_refused}
 use Rattle.problem.specs.inner.Facts.{HeaderFacts}
 use Rattle.mending.specs.Order.{none}
@@ -21,8 +19,9 @@ use Rattle.mending.specs.Refusals.{fault_before, fault_after, mend_fault, Mends}
 use Rattle.mending.specs.laws.Laid.{laid_front}
 use Rattle.mending.specs.laws.Mended.{length_mended}
 use Rattle.mending.specs.laws.Accepted.{written}
-use Rattle.mending.specs.inner.Mending.{blank, Blank, Fresh, Finishes, Placed, Ranked}
+use Rattle.mending.specs.inner.Mending.{blank, Blank, Fresh, Finishes, Placed}
 use Rattle.mending.proofs.Turns.{ids_length}
+use Rattle.std.specs.Prelude.{Err as Refused}
 
 pub finish_refused :
     (s out map : List ℕ) (f : Checked) (r : Refusal)
@@ -97,9 +96,3 @@ module _ (a c : List ℕ) (n : ℕ) (e : length a ≡ n) where
 module _ (s news olds : List ℕ) (n : ℕ) (e : n ≡ node_count s) (p : Placed s news olds) where
   pub news_length : length news ≡ n
   news_length = ap length p.news_are ∙ length_numbers s (node_count s) ∙ sym e
-
-  pub olds_length : length olds ≡ n
-  olds_length = ids_length s olds p.olds_are ∙ sym e
-
-  pub ranked : HeaderFacts s → (c d : List ℕ) → Ranked s (take n (news ++ c)) (take n (olds ++ d))
-  ranked H c d = record { header = H; placed = rw (take_at news c n news_length, take_at olds d n olds_length) p }

@@ -1,29 +1,26 @@
 -- Loops that place nodes, and that lay the mended file piece by piece: what a turn adds, and what stands at the end.
 use mathlib.Core.Path.{◌≡◌, refl, sym, ap, ap₂, ◌∙◌}
-use mathlib.Core.Bool.{cond, not, ◌||◌}
+use mathlib.Core.Bool.{cond, not}
 use mathlib.Core.List.{List, [], ◌∷◌, ◌++◌}
 use Prim.Native.Nat.{ℕ, ◌+◌, ◌-◌, ◌*◌, ◌≤◌, ◌<◌}
-use native.Mathlib.Nat.{zero-add}
 use native.Mathlib.Numerals.{add-one}
 use native.Mathlib.Omega.{arith}
 use lib.Dec.{ltb}
-use lib.ListN.{length, get_or, set, replicate, take, drop, length-append, length-drop}
+use lib.ListN.{length, get_or, set, take, drop, length-append, length-drop}
 use lib.Seq.{length-take-le, take_all, take_at}
-use Rattle.problem.specs.declared.Checked.{Checked}
-use Rattle.problem.specs.declared.Checked.TheVariants.{Accepted}
-use Rattle.problem.specs.Refusals.{◌then◌, refusal, checked}
+use Rattle.problem.specs.Refusals.{Checked, Accepted, ◌then◌, refusal, checked}
 use Rattle.problem.specs.laws.First.{line_at_start, line_more}
 use Rattle.problem.specs.declared.layout.Node.{Node}
 use Rattle.problem.specs.Layout.{node_count, root_count, node_start, node_at, root_at}
 use Rattle.problem.specs.inner.Facts.{HeaderFacts}
-use Rattle.mending.specs.Order.{least, operands_of, none, placed, never_placed, lowest_ready, numbers, old, new}
+use Rattle.mending.specs.Order.{least, operands_of, placed, never_placed, lowest_ready, numbers, old, new}
 use Rattle.mending.specs.Mended.{bytes16, joined, with_fields, renumbered, node_bytes, root_bytes, moved_bytes, mended, old_ids}
 use Rattle.mending.specs.inner.Laid.{laid}
-use Rattle.mending.specs.Refusals.{circle_fault, at_old, mended_fault, room_fault}
+use Rattle.mending.specs.Refusals.{circle_fault, at_old, mended_fault}
 use Rattle.mending.specs.inner.Order.{AllPlaced}
-use Rattle.mending.specs.laws.Order.{numbers_none, numbers_next, length_numbers, old_lt}
+use Rattle.mending.specs.laws.Order.{numbers_next, old_lt}
 use Rattle.mending.specs.laws.Joined.{length_joined, singles_length, single_at}
-use Rattle.mending.specs.laws.Laid.{length_laid, laid_next, laid_piece, laid_then, laid_front, laid_whole}
+use Rattle.mending.specs.laws.Laid.{length_laid, laid_piece, laid_then, laid_front, laid_whole}
 use Rattle.mending.specs.laws.Mended.{node_length, nodes_length, length_mended}
 use Rattle.mending.specs.inner.Mending.{Placed}
 
@@ -35,20 +32,12 @@ pub all_laid :
     (b c : List ℕ) (f : ℕ → List ℕ) (i i' k k' : ℕ) → c ≡ laid b i (joined f k) → i ≡ i' → k ≡ k' → c ≡ laid b i' (joined f k')
 all_laid b c f i i' k k' e p q = e ∙ ap₂ (λ (m n : ℕ). laid b m (joined f n)) p q
 
--- ---- a list of ids laid from the first place on
-pub id_turn : (b c xs : List ℕ) (k : ℕ) → c ≡ laid b 0 (take k xs) → k < length xs → set c k (get_or xs k 0) ≡ laid b 0 (take (k + 1) xs)
-id_turn b c xs k e h = ap (λ (p : ℕ). set c p (get_or xs k 0)) (sym (zero-add k)) ∙ laid_next b c xs 0 k e h
-
 -- ---- placing
 abbrev pub ids : List ℕ → ℕ → List ℕ
 ids s k = joined (λ j. old s j ∷ []) k
 
 length_ids : (s : List ℕ) (k : ℕ) → length (ids s k) ≡ k
 length_ids s k = singles_length (old s) k
-
-pub same_places : (s news₀ news : List ℕ) (k : ℕ) → news₀ ≡ replicate (node_count s) none → news ≡ numbers s k → length news ≡ length news₀
-same_places s news₀ news k e h =
-    ap length h ∙ length_numbers s k ∙ sym (ap length (e ∙ sym (numbers_none s)) ∙ length_numbers s 0)
 
 pub numbers_turn :
     (s news after : List ℕ) (k id : ℕ)
@@ -200,16 +189,6 @@ circle_line s news n id r e f g h =
     g ∙ ap₂ (λ (l : List ℕ) (m : ℕ). least (λ i. not (placed l i)) m) e f in
     line_more _ [] 22 _ _ Accepted r (line_at_start _) refl
     (h ∙ ap₂ (λ (x m : ℕ). Accepted then cond (ltb x m) (refusal 22 x) Accepted) w f)
-
-pub room_line :
-    (s : List ℕ) (room rows n : ℕ) (r : Checked)
-    → n ≡ node_count s
-    → r ≡ (Accepted then cond (ltb room (length s) || ltb rows n) (refusal 25 0) Accepted)
-    → r ≡ room_fault s room rows
-unfolding room_fault
-room_line s room rows n r e h =
-    line_more 0 [] 25 (ltb room (length s) || ltb rows (node_count s)) (ltb room (length s) || ltb rows n) Accepted r (line_at_start 0)
-    (ap (λ (m : ℕ). ltb room (length s) || ltb rows m) e) h
 
 -- the mended file, read back from the bytes that it was written into
 pub file_answer :

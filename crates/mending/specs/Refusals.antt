@@ -1,16 +1,14 @@
 -- Request R-12, "Refusals, in order": the problem's own tests, tried again on the file and on the mended file, and 21, 22, 25.
-use Rattle.std.specs.Prelude.{◌≡◌, cond, ◌||◌, List, [], ◌∷◌, ◌++◌, ℕ, ltb, leb, eqb, length, get_or, drop}
+use Rattle.std.specs.Prelude.{Err as Refused, Ok, ◌≡◌, cond, ◌||◌, List, [], ◌∷◌, ◌++◌, ℕ, ltb, leb, eqb, length, get_or, drop}
 use Rattle.problem.specs.declared.Refusal.{Refusal}
-use Rattle.problem.specs.declared.Checked.{Checked}
-use Rattle.problem.specs.declared.Checked.TheVariants.{Accepted, Refused}
 use Rattle.problem.specs.Layout.{node_count, node_at}
-use Rattle.problem.specs.Refusals.{refusal, first_of, ◌then◌, first_below, operand_above, header_fault, node_fault, checked}
+use Rattle.problem.specs.Refusals.{Checked, Accepted, refusal, first_of, ◌then◌, first_below, operand_above, header_fault, node_fault, checked}
 use Rattle.mending.specs.Order.{operands_of, never_placed}
 use Rattle.mending.specs.Mended.{mended, old_ids}
 
 -- 7, 8 and 20 alone, of what the problem's test says of a node: they are tried before 9 to 12 on the same node
 abbrev pub early : Checked → Checked
-early Accepted = Accepted
+early (Ok tt) = Accepted
 early (Refused r) = cond (leb r.number 8 || eqb r.number 20) (Refused r) Accepted
 
 -- "7, 8 and 20 node by node", of node i
@@ -28,7 +26,7 @@ circle_fault s = first_of (never_placed s) ((22, ltb (never_placed s) (node_coun
 -- the place of 10 to 12, a node, becomes its old id, by the map; that of 13 and 16, a root's position, stays. (1 to 9 and 20 are not given here:
 -- promises/Late.)
 abbrev pub at_old : List ℕ → Checked → Checked
-at_old ids Accepted = Accepted
+at_old ids (Ok tt) = Accepted
 at_old ids (Refused r) = cond (leb r.number 12) (refusal r.number (get_or ids r.place 0)) (Refused r)
 
 -- "10 to 12 on the mended file, node by node in the new order with the old id as place, 13 and 16": the problem check of it

@@ -1,9 +1,7 @@
 -- The judgement: refusals in the request's order, each tried over the whole text before the next; then the roots.
-use Rattle.std.specs.Prelude.{Bool, true, cond, not, ◌&&◌, ◌||◌, List, [], ◌∷◌, ◌++◌, map, ℕ, zero, suc, eqb, length, get_or, set}
-use Rattle.problem.specs.declared.Checked.{Checked}
-use Rattle.problem.specs.declared.Checked.TheVariants.{Accepted, Refused}
+use Rattle.std.specs.Prelude.{Err as Refused, Ok, Bool, true, cond, not, ◌&&◌, ◌||◌, List, [], ◌∷◌, ◌++◌, map, ℕ, zero, suc, eqb, length, get_or, set}
 use Rattle.problem.specs.Layout.{node_count, root_count, node_at, width_at, root_at}
-use Rattle.problem.specs.Refusals.{bit_outside, checked}
+use Rattle.problem.specs.Refusals.{Checked, bit_outside, checked}
 use Rattle.nodes.specs.Problem.{problem, zeros, evaluate}
 use Rattle.models.specs.declared.Judged.{Judged}
 use Rattle.models.specs.declared.Judged.TheVariants.{Yes, No}
@@ -29,7 +27,7 @@ first_said f (suc n) = first_said f n next f n
 
 -- the problem's own refusals: the answer of the problem check (document 01's 1 to 13, and what 02 added to it)
 unfoldable pub of_problem : Checked → Judged
-of_problem Accepted = Yes
+of_problem (Ok tt) = Yes
 of_problem (Refused r) = refuse r.number r.place true
 
 -- the ids of the variables below n, ascending

@@ -1,293 +1,181 @@
 // The judgement, refusal by refusal.
-ghost use Rattle.std.specs.Prelude.{◌≡◌, not, ◌+◌, ◌≤◌, ◌<◌, length, get_or};
-ghost use Rattle.problem.specs.declared.Checked.TheVariants.{Accepted};
+ghost use Rattle.std.specs.Prelude.{◌≡◌, not, ◌≤◌, ◌<◌, length, get_or};
 ghost use Rattle.problem.specs.Layout.{node_count, root_count};
-ghost use Rattle.problem.specs.Refusals.{checked};
 ghost use Rattle.nodes.specs.Problem.{zeros};
 ghost use Rattle.entries.specs.Names.{names};
 ghost use Rattle.entries.specs.Entries.{is_model, entries};
-ghost use Rattle.models.specs.Judgement.{refuse, ◌next◌, first_said, contradicted_at, zero_at, judged_entries, judged_text};
-ghost use Rattle.models.specs.inner.Judging.{is_yes, Sound, Placing, Kept, Prepared, Judging, Read, placed_up, unmarked_at, values_said};
+ghost use Rattle.entries.specs.inner.Places.{word_in};
+ghost use Rattle.models.specs.Judgement.{refuse, ◌next◌, first_said, contradicted_at, zero_at, judged_entries, judged};
+ghost use Rattle.models.specs.inner.Judging.{said, root_said, told, is_contradicted, Kept, Read, placed_up, unmarked, unmarked_at, values_said};
 
-use crate::{Fault, Judged};
-use entries::{
-    any_again, body_start, entry_at, is_model, item_at, name_at, position_of, read_digests,
-    read_names,
-};
+use crate::Fault;
+use crate::reason::{Reason, refuse_if};
+use crate::variables::{Given, Variables};
+use entries::{NameIndex, NameList, body_start, entry_at, is_model, item_at, name_at, read_names};
 use evaluation::evaluate;
-use problem::{node_at, node_count, root_at, root_count, width_at};
-
-// Whether nothing is said against the model.
-fn is_yes(said: Judged) -> bool
-    ensures { result ≡ is_yes said }
-{
-    match said {
-        Judged::Yes => true,
-        Judged::No(_) => false,
-        Judged::Refused(_) => false,
-    }
-}
-
-// A refusal by itself.
-fn refused(number: u8, place: u64) -> Judged
-    ensures { result ≡ Judged.Refused (record { number = number; place = place }) }
-{
-    Judged::Refused(Fault { number, place })
-}
-
-// A refusal where it is given, after what was said before: what is said first stays.
-fn line(before: Judged, number: u8, given: bool, place: u64) -> Judged
-    ensures { result ≡ (before next refuse number place given) }
-{
-    if !is_yes(before) {
-        return before;
-    }
-    if given {
-        return refused(number, place);
-    }
-    Judged::Yes
-}
-
-// What is said first of two.
-fn first_of(a: Judged, b: Judged) -> Judged
-    ensures { result ≡ (a next b) }
-{
-    if is_yes(a) {
-        return b;
-    }
-    a
-}
-
-// The ids of the variables below i + 1, where k of them are below i.
-fn keep(problem: &[u8], ids: &mut [u16], i: u16, k: usize) -> usize
-    requires { (checked problem.now ≡ Accepted) × (i < node_count problem.now) × Kept problem.now ids.old i k }
-    ensures { Kept problem.now ids.new (i + 1) result }
-{
-    let kind = node_at(problem, i).kind;
-    if kind == 0 {
-        ids[k] = i;
-        return k + 1;
-    }
-    k
-}
+use operators::kind;
+use problem::Problem;
 
 // The ids of the variables, and how many there are.
-fn read_variables(problem: &[u8], ids: &mut [u16]) -> usize
-    requires { (checked problem.now ≡ Accepted) × (length ids.old ≡ 1024) }
-    ensures { Kept problem.now ids.new (node_count problem.now) result }
+// (Fixed places and a count of them: there is no heap.)
+#[tactic(auto, using(crate::specs::laws::Variables::kept_none, crate::specs::laws::Variables::kept_more, crate::specs::laws::Variables::kept_same))]
+fn read_variables(problem: Problem, ids: &mut [u16]) -> usize
+    requires { length ids.old ≡ 1024 }
+    ensures { Kept problem.entry.bytes.now ids.new (node_count problem.entry.bytes.now) result }
 {
-    let n = node_count(problem);
-    let mut i: u16 = 0;
-    let mut k: usize = 0;
-    while i < n {
-        k = keep(problem, ids, i, k);
-        i += 1;
+    let mut count = 0;
+    for i in 0..problem.node_count() {
+        if problem.node(i).kind == kind::VARIABLE {
+            ids[count] = i;
+            count += 1;
+        }
     }
-    k
+    count
 }
 
-// 32 to 34, entry by entry; the value of each goes to the place of its variable.
-fn read_entries(
-    problem: &[u8],
-    list: &[u8],
-    text: &[u8],
-    froms: &[usize],
-    tos: &[usize],
-    digests: &[u64],
-    ids: &[u16],
-    count: usize,
-    given: &mut [u8],
-    words: &mut [u64],
-) -> Judged
-    requires { Prepared problem.now list.now froms.now tos.now digests.now ids.now count × (given.old ≡ zeros) × (words.old ≡ zeros) }
-    ensures { Read problem.now list.now text.now given.new words.new result }
+// The word that an entry says, whether it fits or not.
+fn word_in(item: Result<u64, u64>) -> u64
+    ensures { result ≡ word_in item }
+{
+    match item {
+        Ok(word) | Err(word) => word,
+    }
+}
+
+// 32 to 34, entry by entry; the value of each goes to the place of its variable. 33 and 34 wait for the end, since each is tried
+// over the whole text before the next.
+// (A `while let`: how many entries there are is not known before.)
+#[tactic(auto, using(crate::specs::laws::Variables::owner_few, crate::specs::laws::Variables::owner_held, crate::specs::laws::Variables::owner_node))]
+fn read_entries(variables: &Variables, text: &[u8], given: &mut Given) -> Result<(), Fault>
+    requires { (given.old.marks ≡ unmarked) × (given.old.words ≡ zeros) }
+    ensures { Read variables.now.problem.bytes.now variables.now.index.names.list.now text.now given.new.marks given.new.words (said result) }
 {
     let mut at = body_start(text);
     let mut k: u64 = 0;
-    let mut again = Judged::Yes;
-    let mut unfit = Judged::Yes;
-    loop {
-        let entry = entry_at(text, at);
-        if entry.size == 0 {
-            return first_of(again, unfit);
-        }
-        let owner = position_of(list, froms, tos, digests, count, name_at(text, entry.name));
-        if count <= owner {
-            return refused(32, k);
-        }
-        let w = width_at(problem, ids[owner]);
-        let item = item_at(text, entry.sort, entry.value, w);
-        again = line(again, 33, given[owner] != 0, k);
-        unfit = line(unfit, 34, item.unfit, k);
-        given[owner] = 1;
-        words[owner] = item.word;
+    let mut again = Ok(());
+    let mut unfit = Ok(());
+    while let Some(entry) = entry_at(text, at) {
+        let Some(owner) = variables.index.position(name_at(text, entry.name)) else {
+            return Err(Reason::Unknown.at(k));
+        };
+        let width = variables.problem.width(variables.ids[owner]);
+        let item = item_at(text, entry.sort, entry.value, width);
+        again = again.and(refuse_if(given.marks[owner], Reason::Again, k));
+        unfit = unfit.and(refuse_if(item.is_err(), Reason::Misfit, k));
+        given.marks[owner] = true;
+        given.words[owner] = word_in(item);
         at = entry.end;
         k += 1;
     }
+    again.and(unfit)
 }
 
-// 35, variable by variable.
-#[tactic(auto, using(crate::specs::laws::First::said_at, crate::specs::laws::First::refuse_given))]
-fn absent(ids: &[u16], given: &[u8], count: usize) -> Judged
-    requires { (count ≤ length ids.now) × (count ≤ length given.now) }
-    ensures { result ≡ first_said (unmarked_at ids.now given.now) count }
+// Whether node i is a variable whose value contradicts a fixed bit.
+// (By the two tests of its definition, and not `words::agrees`, whose contract says the same bit by bit.)
+#[tactic(auto, unfolding(crate::specs::inner::Judging::is_contradicted, problem::specs::Refusals::bit_outside))]
+fn is_contradicted(problem: Problem, values: &[u64], i: u16) -> bool
+    requires { (node_count problem.bytes.now ≤ length values.now) × (i < node_count problem.bytes.now) }
+    ensures { result ≡ is_contradicted problem.entry.bytes.now values.now i }
 {
-    let mut k: usize = 0;
-    while k < count {
-        if given[k] == 0 {
-            return Judged::Refused(Fault {
-                number: 35,
-                place: ids[k] as u64,
-            });
-        }
-        k += 1;
-    }
-    Judged::Yes
-}
-
-// The values, each at its variable's id.
-fn assign(ids: &[u16], words: &[u64], count: usize, values: &mut [u64])
-    requires { Placing ids.now words.now values.old count }
-    ensures { values.new ≡ placed_up ids.now words.now count }
-{
-    let mut k: usize = 0;
-    while k < count {
-        let id = ids[k] as usize;
-        values[id] = words[k];
-        k += 1;
-    }
-}
-
-// 36, of node i.
-fn contradicted(problem: &[u8], values: &[u64], i: u16) -> Judged
-    requires { Sound problem.now values.now × (i < node_count problem.now) }
-    ensures { result ≡ contradicted_at problem.now values.now i }
-{
-    let n = node_at(problem, i);
-    let v = values[i as usize];
-    let apart = ((n.lo & v) != n.lo) | ((v & n.hi) != v);
-    line(Judged::Yes, 36, (n.kind == 0) & apart, i as u64)
+    let n = problem.node(i);
+    let v = values[usize::from(i)];
+    (n.kind == kind::VARIABLE) & (((n.lo & v) != n.lo) | ((v & n.hi) != v))
 }
 
 // 36, node by node.
-fn any_contradicted(problem: &[u8], values: &[u64]) -> Judged
-    requires { Sound problem.now values.now }
-    ensures { result ≡ first_said (contradicted_at problem.now values.now) (node_count problem.now) }
+// (A loop, here and in `absent`: `first_refusal` is of the other refusal, with its own definition.)
+#[tactic(auto, using(crate::specs::laws::First::said_none, crate::specs::laws::First::contradicted_fault, crate::specs::laws::First::contradicted_passed, crate::specs::laws::First::said_end))]
+fn any_contradicted(problem: Problem, values: &[u64]) -> Result<(), Fault>
+    requires { node_count problem.bytes.now ≤ length values.now }
+    ensures { said result ≡ first_said (contradicted_at problem.entry.bytes.now values.now) (node_count problem.entry.bytes.now) }
 {
-    let n = node_count(problem);
-    let mut i: u16 = 0;
-    while i < n {
-        let found = contradicted(problem, values, i);
-        if !is_yes(found) {
-            return found;
-        }
-        i += 1;
+    for i in 0..problem.node_count() {
+        refuse_if(
+            is_contradicted(problem, values, i),
+            Reason::Contradicted,
+            u64::from(i),
+        )?;
     }
-    Judged::Yes
+    Ok(())
 }
 
 // The value at a node's place, and 0 past the end.
-fn held(values: &[u64], i: u16) -> u64
-    ensures { result ≡ get_or values.now i 0 }
+// (One line of the library, named, as `old_at` in `mending`: one for both would be no plainer.)
+fn held(values: &[u64], id: u16) -> u64
+    ensures { result ≡ get_or values.now id 0 }
 {
-    let at = i as usize;
-    if at < values.len() { values[at] } else { 0 }
+    values.get(usize::from(id)).copied().unwrap_or(0)
 }
 
 // The first root that is 0.
-fn first_zero(problem: &[u8], values: &[u64]) -> Judged
-    ensures { result ≡ first_said (zero_at problem.now values.now) (root_count problem.now) }
+// (A loop over positions: no slice holds the roots, and a closure would have to ask that a position is one.)
+#[tactic(auto, using(crate::specs::laws::First::zero_found, crate::specs::laws::First::zero_not, crate::specs::laws::First::said_none, crate::specs::laws::First::said_more, crate::specs::laws::First::said_at, crate::specs::laws::First::said_end))]
+fn first_zero(problem: Problem, values: &[u64]) -> Option<u16>
+    ensures { root_said result ≡ first_said (zero_at problem.entry.bytes.now values.now) (root_count problem.entry.bytes.now) }
 {
-    let n = root_count(problem);
-    let mut j: u16 = 0;
-    while j < n {
-        if held(values, root_at(problem, j)) == 0 {
-            return Judged::No(j);
+    for j in 0..problem.root_count() {
+        if held(values, problem.root(j)) == 0 {
+            return Some(j);
         }
-        j += 1;
     }
-    Judged::Yes
+    None
 }
 
 // 35, 36 and the roots, of values by variable.
-fn judge_values(
-    problem: &[u8],
-    ids: &[u16],
-    count: usize,
-    given: &[u8],
-    words: &[u64],
-    values: &mut [u64],
-) -> Judged
-    requires { (checked problem.now ≡ Accepted) × (count ≤ length given.now) × Placing ids.now words.now values.old count }
-    ensures { result ≡ (first_said (unmarked_at ids.now given.now) count next values_said problem.now (placed_up ids.now words.now count)) }
+fn judge_values(variables: &Variables, given: &Given) -> Result<Option<u16>, Fault>
+    ensures { told result ≡ (first_said (unmarked_at variables.now.ids.now given.now.marks) variables.now.index.names.count next values_said variables.now.problem.bytes.now (placed_up variables.now.ids.now given.now.words variables.now.index.names.count)) }
 {
-    let missing = absent(ids, given, count);
-    if !is_yes(missing) {
-        return missing;
-    }
-    assign(ids, words, count, values);
-    let wrong = any_contradicted(problem, values);
-    if !is_yes(wrong) {
-        return wrong;
-    }
-    evaluate(problem, values);
-    first_zero(problem, values)
+    let problem = variables.problem;
+    variables.absent(given)?;
+    let mut values = [0u64; 1024];
+    variables.assign(given, &mut values);
+    any_contradicted(problem, &values)?;
+    evaluate(problem, &mut values);
+    Ok(first_zero(problem, &values))
 }
 
 // 31 to 36 and the roots.
-fn judge_text(
-    problem: &[u8],
-    list: &[u8],
-    text: &[u8],
-    froms: &[usize],
-    tos: &[usize],
-    digests: &[u64],
-    ids: &[u16],
-    count: usize,
-    given: &mut [u8],
-    words: &mut [u64],
-    values: &mut [u64],
-) -> Judged
-    requires { Prepared problem.now list.now froms.now tos.now digests.now ids.now count × (given.old ≡ zeros) × (words.old ≡ zeros) × (values.old ≡ zeros) }
-    ensures { result ≡ (refuse 31 0 (not (is_model text.now)) next judged_entries problem.now (names list.now) (entries text.now)) }
+fn judge_text(variables: &Variables, text: &[u8]) -> Result<Option<u16>, Fault>
+    ensures { told result ≡ (refuse 31 0 (not (is_model text.now)) next judged_entries variables.now.problem.bytes.now (names variables.now.index.names.list.now) (entries text.now)) }
 {
-    let syntax = line(Judged::Yes, 31, !is_model(text), 0);
-    let found = read_entries(
-        problem, list, text, froms, tos, digests, ids, count, given, words,
-    );
-    let said = first_of(syntax, found);
-    if !is_yes(said) {
-        return said;
-    }
-    judge_values(problem, ids, count, given, words, values)
+    let mut given = Given {
+        marks: [false; 1024],
+        words: [0; 1024],
+    };
+    let syntax = refuse_if(!is_model(text), Reason::Syntax, 0);
+    let found = read_entries(variables, text, &mut given);
+    syntax.and(found)?;
+    judge_values(variables, &given)
 }
 
-// 30 to 36 and the roots, of an accepted problem, with places to work in.
-pub(crate) fn judge_accepted(
-    problem: &[u8],
-    list: &[u8],
-    text: &[u8],
-    froms: &mut [usize],
-    tos: &mut [usize],
-    digests: &mut [u64],
-    ids: &mut [u16],
-    given: &mut [u8],
-    words: &mut [u64],
-    values: &mut [u64],
-) -> Judged
-    requires { Judging problem.now froms.old tos.old digests.old ids.old given.old words.old values.old }
-    ensures { result ≡ judged_text problem.now list.now text.now }
+// The problem's refusals, 30 to 36 and the roots.
+pub(crate) fn judge_bytes(bytes: &[u8], list: &[u8], text: &[u8]) -> Result<Option<u16>, Fault>
+    ensures { told result ≡ judged bytes.now list.now text.now }
 {
-    let count = read_variables(problem, ids);
-    let named = read_names(list, froms, tos);
-    if named != count {
-        return refused(30, 0);
-    }
-    read_digests(list, froms, tos, count, digests);
-    if any_again(list, froms, tos, digests, count) {
-        return refused(30, 0);
-    }
-    judge_text(
-        problem, list, text, froms, tos, digests, ids, count, given, words, values,
-    )
+    let problem = Problem::parse(bytes)?;
+    let mut ids = [0u16; 1024];
+    let count = read_variables(problem, &mut ids);
+    let mut froms = [0usize; 1024];
+    let mut tos = [0usize; 1024];
+    let named = read_names(list, &mut froms, &mut tos);
+    refuse_if(named != Some(count), Reason::Names, 0)?;
+    let names = NameList {
+        list,
+        froms: &froms,
+        tos: &tos,
+        count,
+    };
+    let mut digests = [0u64; 1024];
+    names.read_digests(&mut digests);
+    let index = NameIndex {
+        names,
+        digests: &digests,
+    };
+    refuse_if(index.any_again(), Reason::Names, 0)?;
+    let variables = Variables {
+        problem,
+        ids: &ids,
+        index,
+    };
+    judge_text(&variables, text)
 }

@@ -6,52 +6,49 @@ ghost use Rattle.std.specs.Prelude.{◌≡◌};
 ghost use Rattle.models.specs.Judgement.{judged};
 
 mod judging;
+mod reason;
+mod variables;
 
-use judging::judge_accepted;
-use problem::{Checked, check};
+use judging::judge_bytes;
+use problem::Refusal;
 
-// A refusal's number, and its place: an entry's position, a node's id, a root's position, or 0.
-#[derive(Clone, Copy)]
+/// A refusal's number, and its place: an entry's position, a node's id, a root's position, or 0.
+// (By number, as callers are told it; `problem::Refusal` has 16 bits for the place, and an entry's position may need more.)
+#[derive(Clone, Copy, Debug, PartialEq, Eq)]
 pub struct Fault {
     pub number: u8,
     pub place: u64,
 }
 
-// Our word for another solver's values: all roots are 1; the first root that is 0, by its position; or a refusal.
-#[derive(Clone, Copy)]
+impl From<Refusal> for Fault {
+    ghost use Rattle.std.specs.Prelude.{◌≡◌};
+
+    ghost from_gives = { λ r f. f ≡ record { number = r.number; place = r.place } };
+
+    fn from(refusal: Refusal) -> Fault {
+        Fault {
+            number: refusal.number,
+            place: u64::from(refusal.place),
+        }
+    }
+}
+
+/// Our word for another solver's values: all roots are 1; the first root that is 0, by its position; or a refusal.
+// (No Option in a `Result`: `judged`, which `judge` promises, names these three.)
+#[derive(Clone, Copy, Debug, PartialEq, Eq)]
 pub enum Judged {
     Yes,
     No(u16),
     Refused(Fault),
 }
 
-// The judgement of a get-model answer, by the names of the problem's variables.
+/// The judgement of a get-model answer, by the names of the problem's variables.
 pub fn judge(problem: &[u8], names: &[u8], text: &[u8]) -> Judged
     ensures { result ≡ judged problem.now names.now text.now }
 {
-    if let Checked::Refused(refusal) = check(problem) {
-        return Judged::Refused(Fault {
-            number: refusal.number,
-            place: refusal.place as u64,
-        });
+    match judge_bytes(problem, names, text) {
+        Ok(None) => Judged::Yes,
+        Ok(Some(root)) => Judged::No(root),
+        Err(fault) => Judged::Refused(fault),
     }
-    let mut froms = [0usize; 1024];
-    let mut tos = [0usize; 1024];
-    let mut digests = [0u64; 1024];
-    let mut ids = [0u16; 1024];
-    let mut given = [0u8; 1024];
-    let mut words = [0u64; 1024];
-    let mut values = [0u64; 1024];
-    judge_accepted(
-        problem,
-        names,
-        text,
-        &mut froms,
-        &mut tos,
-        &mut digests,
-        &mut ids,
-        &mut given,
-        &mut words,
-        &mut values,
-    )
 }

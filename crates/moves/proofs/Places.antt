@@ -1,5 +1,6 @@
 -- What the loops of a walk, a move and a run take from the definitions, at places of the tape.
-use mathlib.Core.Path.{◌≡◌, refl, sym, ap, ap₂, ◌∙◌, subst}
+use Rattle.std.specs.Prelude.{Option, None, Some}
+use mathlib.Core.Path.{◌≡◌, sym, ap, ap₂, ◌∙◌, subst}
 use mathlib.Core.List.{List, [], ◌∷◌, ◌++◌}
 use Prim.Native.Nat.{ℕ, zero, suc, ◌+◌, ◌*◌, ◌-◌, ◌%◌, ◌≤◌, ◌<◌}
 use native.Mathlib.Omega.{arith}
@@ -7,8 +8,6 @@ use native.Mathlib.Nat.{not-suc-le-zero, add-zero}
 use native.Mathlib.Decide.{ℕ_discrete}
 use lib.ListN.{length, get_or, drop, length-drop, length-append, get_or-append}
 use lib.Seq.{get_or-drop, drop-drop, get_or-append_seam}
-use Rattle.words.specs.declared.found.Found.{Found}
-use Rattle.words.specs.declared.found.Found.TheVariants.{At, Nothing}
 use Rattle.words.specs.laws.Agree.{agrees_lt}
 use Rattle.operators.specs.Table.{shape_of}
 use Rattle.problem.specs.declared.layout.Node.{Node}
@@ -16,20 +15,21 @@ use Rattle.problem.specs.Layout.{node_at, width_at, root_at}
 use Rattle.picking.specs.declared.spot.Spot.{Spot}
 use Rattle.picking.specs.declared.spot.Three.{Three}
 use Rattle.picking.specs.Spot.{at}
-use Rattle.nodes.specs.Problem.{Prob, Pairs, problem, three, count, arg, Variable, spot_of, spot, pairs}
+use Rattle.nodes.specs.Problem.{Prob, problem, three, count, arg, Variable, spot_of, spot}
 use Rattle.nodes.specs.laws.Positions.{three_same, past_three}
 use Rattle.evaluation.specs.Lists.{Lists, Lists.done, Lists.keep, Lists.skip}
 use Rattle.moves.specs.Step.{Out, goes, Step}
-use Rattle.moves.specs.Moves.{End, sets, stuck, short, Walk, Walk.arrives, Walk.unserved, Walk.stops, Walk.onward, Unsatisfied, AllOne, Move, Move.no_word, Move.from_root}
+use Rattle.moves.specs.Moves.{End, sets, stuck, short, Walk, Walk.arrives, Walk.unserved, Walk.stops, Walk.onward, Unsatisfied, Move, Move.no_word, Move.from_root}
 use Rattle.nodes.specs.inner.Good.{Good}
 use Rattle.nodes.specs.laws.Good.{good_of}
 use Rattle.nodes.specs.laws.Nodes.{operand_node}
 use Rattle.nodes.specs.laws.Pairs.{pairs_ternary}
 use Rattle.nodes.specs.laws.Spot.{spot_fair}
-use Rattle.evaluation.specs.laws.Decide.{Stands, lists_find, lists_member}
 use Rattle.evaluation.specs.laws.Lists.{lists_unique}
 use Rattle.evaluation.specs.inner.Lists.{Count}
-use Rattle.moves.specs.inner.Moves.{Aimed, out_of, Stepping, Searching, Walking, Nth}
+use Rattle.moves.specs.inner.Moves.{Aimed, out_of, Stepping, Searching, Nth, prob_in}
+use Rattle.nodes.specs.inner.Good.{Held}
+use Rattle.moves.specs.declared.view.Prepared.{Prepared}
 use Rattle.moves.specs.laws.Moves.{Next, step_next, root_aimed}
 use Rattle.nodes.specs.inner.Nodes.{ids, OperandsBelow, held_in, widths_in, Filled, Spotted, spot_in}
 
@@ -104,11 +104,9 @@ pub record On (s vs tape : List ℕ) (from start made n t k steps : ℕ) : Type 
   pub words : k + 2 * made ≡ start + 2 * steps
   pub onto : (r : End) → Walk (problem s) vs n t (drop k tape) steps r → Walk (problem s) vs from 1 (drop start tape) made r
 
-pub on_start :
-    {s los his vs tape : List ℕ} {from start made : ℕ}
-    → Walking s los his vs tape from start made
-    → On s vs tape from start made from 1 start made
-on_start w = record { node = w.node; aimed = w.aimed; on_tape = w.on_tape; few = w.made_le; words = refl; onto = λ r x. x }
+-- what a view knows, of values that are held
+pub searching : (r : Prepared) {vs : List ℕ} → Held (prob_in r) vs → Searching r.pairs.problem.bytes.now r.pairs.los.now r.pairs.his.now vs
+searching r h = record { filled = r.pairs.filled; open_roots = r.open; held = h }
 
 module _ {s vs tape : List ℕ} {from start made n t k steps : ℕ} (o : On s vs tape from start made n t k steps) {d : Node} (e : d ≡ node_at s n) where
   pub walk_arrives : d.kind ≡ 0 → Walk (problem s) vs from 1 (drop start tape) made (sets n t steps (drop k tape))
@@ -127,18 +125,18 @@ module _ {s vs tape : List ℕ} {from start made n t k steps : ℕ} (o : On s vs
     walk_short h = o.onto _ (unserved {ws = drop k tape} not_a_variable (omega (arith, left tape k)))
 
     -- the step that the code makes, which picks at position i what it found
-    module _ {los his : List ℕ} (W : Searching s los his vs) {S : Spot} (q : S ≡ spot_in s los his vs d) (i : ℕ) (found : Found)
+    module _ {los his : List ℕ} (W : Searching s los his vs) {S : Spot} (q : S ≡ spot_in s los his vs d) (i : ℕ) (found : Option ℕ)
         (st : Step S t (get_or tape k 0) (get_or tape (k + 1) 0) (out_of i found)) (h : k + 2 ≤ length tape) where
       made_step : {p : Out} → out_of i found ≡ p → Step (spot (problem s) vs n) t (get_or (drop k tape) 0 0) (get_or (drop k tape) 1 0) p
       made_step z = rw (first_word tape k, second_word tape k, ← z, ← spot_is s los his vs n W.filled o.node, ← e, ← q) st
 
-      pub walk_stuck : found ≡ Nothing → Walk (problem s) vs from 1 (drop start tape) made (stuck (steps + 1) (drop (k + 2) tape))
+      pub walk_stuck : found ≡ None → Walk (problem s) vs from 1 (drop start tape) made (stuck (steps + 1) (drop (k + 2) tape))
       walk_stuck z =
           o.onto _
           (subst (λ (l : List ℕ). Walk (problem s) vs n t (drop k tape) steps (stuck (steps + 1) l)) (drop-drop 2 k tape)
           (stops {ws = drop k tape} not_a_variable (omega (arith, left tape k)) (made_step (ap (out_of i) z))))
 
-      module _ {v m : ℕ} (z : found ≡ At v) (a : m ≡ at (ids d) i) where
+      module _ {v m : ℕ} (z : found ≡ Some v) (a : m ≡ at (ids d) i) where
         is_arg : m ≡ arg (problem s) n i
         unfolding problem
         is_arg = rw e at a
@@ -203,21 +201,17 @@ module _ (P : Prob) (vs : List ℕ) where
         let q : get_or c.list (get_or tape k 0 % u) 0 ≡ j = (nth_at (get_or tape k 0 % u) j m.before m.member c.lists m.inside).1 in
         from_root {r = r} c.list (omega (arith, left tape k)) c.lists (rw (first_word tape k, c.is, q, drop-drop 1 k tape) w)
 
+-- a root is a node that 1 is a target of
+pub move_from :
+    {s los his vs : List ℕ} {j r : ℕ} → Searching s los his vs → j < (problem s).entries → r ≡ root_at s j → (r < (problem s).nodes) × Aimed (problem s) r 1
+unfolding problem
+move_from {s} {j = j} W h e =
+    let g : Good (problem s) = good_of s W.filled.accepted in
+    (rw e (g.root_below j h), rw e (root_aimed (problem s) g W.open_roots j h))
+
 -- the walk that a move makes, from root entry j
 module _ {s los his vs : List ℕ} (tape : List ℕ) (k : ℕ) {u made j r : ℕ} (W : Searching s los his vs) (c : Count (Unsatisfied (problem s) vs) (problem s).entries u)
     (m : Nth (Unsatisfied (problem s) vs) (problem s).entries (get_or tape k 0 % u) j) (e : r ≡ root_at s j) (h : k < length tape) where
-  pub move_walking : made ≤ k → Walking s los his vs tape r (k + 1) made
-  unfolding problem
-  move_walking l =
-      let g : Good (problem s) = good_of s W.filled.accepted in
-      record {
-        searching = W;
-        node = rw e (g.root_below j m.inside);
-        aimed = rw e (root_aimed (problem s) g W.open_roots j m.inside);
-        on_tape = omega arith;
-        made_le = omega arith;
-      }
-
   pub move_made : {d : End} → Walk (problem s) vs r 1 (drop (k + 1) tape) made d → Move (problem s) vs (drop k tape) made d
   unfolding problem
   move_made w = move_root (problem s) vs tape k made h c m (rw e at w)

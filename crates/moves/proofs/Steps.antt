@@ -1,4 +1,6 @@
 -- What the code of one step takes from the definitions: the candidates as bits, the candidate followed, the pick.
+use Rattle.std.specs.Prelude.{Option, Some, None, count_ones}
+use Rattle.std.specs.Int.Count.{ones}
 use mathlib.Core.Path.{◌≡◌, refl, sym, ap, ◌∙◌, subst}
 use mathlib.Core.Logic.{◌⊎◌, inl, inr, ⊎_elim}
 use mathlib.Core.Bool.{Bool, true, false, not, ◌&&◌, ◌||◌}
@@ -11,8 +13,6 @@ use lib.Bits.{bit_and}
 use lib.Dec.{T, eqb, ltb, eqb→eq, ltb→lt}
 use lib.ListN.{length, get_or}
 use lib.Pow.{pow_mono}
-use Rattle.words.specs.declared.found.Found.{Found}
-use Rattle.words.specs.declared.found.Found.TheVariants.{At, Nothing}
 use Rattle.words.specs.Bits.{bit}
 use Rattle.words.specs.laws.Bits.{bit_high}
 use Rattle.words.specs.laws.Cases.{every, every_at}
@@ -62,6 +62,10 @@ lists_marked {A} {n} {m} h g =
 pub count_is : (m : ℕ) → m < 8 → m - m / 2 - m / 4 ≡ length (listed m)
 unfolding bit listed
 count_is m h = eqb→eq _ _ (every_at 8 (λ x. eqb (x - x / 2 - x / 4) (length (members 3 x))) tt m h)
+
+pub ones_are : (m : ℕ) → m < 8 → count_ones m ≡ length (listed m)
+unfolding bit listed ones
+ones_are m h = eqb→eq _ _ (every_at 8 (λ x. eqb (count_ones x) (length (members 3 x))) tt m h)
 
 pub few_listed : (m : ℕ) → m < 8 → length (listed m) ≤ 3
 few_listed m h = omega (arith, count_is m h)
@@ -211,9 +215,9 @@ module _ (S : Spot) (t : ℕ) {m : ℕ} (g : Marks (Candidate S t) (positions S)
 -- ---- the pick
 
 pub follows_consistent :
-    (S : Spot) (t e p i : ℕ) (r : Found)
+    (S : Spot) (t e p i : ℕ) (r : Option ℕ)
     → (e % 2 ≡ 1) ⊎ Empty (Inverse S t i)
     → Picked (Consistent S t i) (p % 2 ^ at S.widths i) r
     → Follows S t e p i (out_of i r)
-follows_consistent S t e p i (At v) w k = consistent w k
-follows_consistent S t e p i Nothing w k = nothing w k
+follows_consistent S t e p i (Some v) w k = consistent w k
+follows_consistent S t e p i None w k = nothing w k

@@ -2,134 +2,106 @@
 #![tactic(auto)]
 
 ghost use Rattle.std.specs.Prelude.{◌+◌, drop, length};
-ghost use Rattle.nodes.specs.Problem.{problem};
 ghost use Rattle.evaluation.specs.inner.Readers.{Indexed};
 ghost use Rattle.moves.specs.Moves.{Walk, Move};
-ghost use Rattle.moves.specs.inner.Moves.{Walking, Drawing, end_of, Placed, Turned};
+ghost use Rattle.moves.specs.inner.Moves.{prob_in, Walking, Drawing, end_of, Placed, Turned};
 
 mod roots;
 mod step;
+mod tape;
+mod turn;
+mod view;
 
-use evaluation::evaluate_above;
-use nodes::{operand, spot_of};
-use problem::{node_at, root_at};
+use evaluation::{Readers, evaluate_above};
+use nodes::operand;
+use operators::kind;
 use roots::nth_unsatisfied;
 pub use roots::{closed_root, count_unsatisfied};
 use step::step;
-use words::Found;
+pub use tape::Tape;
+pub use turn::Turn;
+use turn::{Setting, Stop};
+pub use view::Prepared;
 
-// How a move ends: a variable, the value that it takes, the steps made so far in the run, the next place on the tape; or
-// blocked, with these two; or the tape cannot serve a draw whole.
-#[derive(Clone, Copy)]
-enum Stop {
-    Sets(u16, u64, u64, usize),
-    Stuck(u64, usize),
-    Short,
-}
-
-// What a move comes to: the nodes evaluated after it, the steps made so far in the run and the next place on the tape; or the
-// tape cannot serve it, and it is unfinished.
-#[derive(Clone, Copy)]
-pub enum Turn {
-    Finished(u64, u64, usize),
-    Unfinished,
-}
-
-// Down from a node whose target is 1, with the words from a place of the tape on.
-fn walk(
-    bytes: &[u8],
-    los: &[u64],
-    his: &[u64],
-    values: &[u64],
-    tape: &[u64],
-    from: u16,
-    start: usize,
-    made: u64,
-) -> Stop
-    requires { Walking bytes.now los.now his.now values.now tape.now from start made }
-    ensures { Walk (problem bytes.now) values.now from 1 (drop start tape.now) made (end_of tape.now result)
-        × Placed (length tape.now) start made result }
+// Down from a node whose target is 1, with the words of the tape; None where the tape cannot serve a draw whole.
+// (values apart from `Prepared`, here and below: a move that is finished sets one.)
+fn walk(run: &Prepared, values: &[u64], tape: Tape, from: u16, made: u64) -> Option<Stop>
+    requires { Walking run.now values.now tape from made }
+    ensures walk { Walk (prob_in run.now) values.now from 1 (drop tape.entry.at tape.entry.words.now) made (end_of tape.entry.words.now result) }
+    ensures placed { Placed (length tape.entry.words.now) tape.entry.at made result }
 {
+    let mut rest = tape;
     let mut n = from;
-    let mut t: u64 = 1;
-    let mut at = start;
+    let mut t = 1;
     let mut steps = made;
+    // No count ends it: it ends at a variable, or where the tape does.
     loop {
-        let node = node_at(bytes, n);
-        if node.kind == 0 {
-            return Stop::Sets(n, t, steps, at);
+        let node = run.pairs.problem.node(n);
+        if node.kind == kind::VARIABLE {
+            let set = Some(Setting { node: n, value: t });
+            return Some(Stop {
+                set,
+                steps,
+                next: rest.at,
+            });
         }
-        if tape.len() - at < 2 {
-            return Stop::Short;
-        }
-        let spot = spot_of(bytes, los, his, values, node);
-        let way = step(spot, t, tape[at], tape[at + 1]);
-        let found = way.found;
-        at += 2;
+        let draw = rest.draw_two()?;
+        let spot = run.pairs.spot(values, node);
+        let followed = step(spot, t, draw);
         steps += 1;
-        let Found::At(v) = found else {
-            return Stop::Stuck(steps, at);
+        let Some(way) = followed else {
+            return Some(Stop {
+                set: None,
+                steps,
+                next: rest.at,
+            });
         };
         n = operand(node, way.position);
-        t = v;
+        t = way.value;
     }
 }
 
 // "A move reads one word, modulo the number of unsatisfied root entries, to take one of them in file order; its target is 1."
-fn make_move(
-    bytes: &[u8],
-    los: &[u64],
-    his: &[u64],
-    values: &[u64],
-    tape: &[u64],
-    count: u64,
-    at: usize,
-    made: u64,
-) -> Stop
-    requires { Drawing bytes.now los.now his.now values.now tape.now count at made }
-    ensures { Move (problem bytes.now) values.now (drop at tape.now) made (end_of tape.now result)
-        × Placed (length tape.now) (at + 1) made result }
+fn make_move(run: &Prepared, values: &[u64], tape: Tape, count: u64, made: u64) -> Option<Stop>
+    requires { Drawing run.now values.now tape count made }
+    ensures moved { Move (prob_in run.now) values.now (drop tape.entry.at tape.entry.words.now) made (end_of tape.entry.words.now result) }
+    ensures placed { Placed (length tape.entry.words.now) (tape.entry.at + 1) made result }
 {
-    if tape.len() <= at {
-        return Stop::Short;
-    }
-    let k = tape[at] % count;
-    let j = nth_unsatisfied(bytes, values, count, k);
-    walk(
-        bytes,
-        los,
-        his,
-        values,
-        tape,
-        root_at(bytes, j),
-        at + 1,
-        made,
-    )
+    let mut rest = tape;
+    let word = rest.draw()?;
+    let problem = run.pairs.problem;
+    let j = nth_unsatisfied(problem, values, count, word % count);
+    walk(run, values, rest, problem.root(j), made)
 }
 
-// A move and what follows: "the variable takes the target, all nodes are evaluated". Only nodes above it can change.
+/// A move and what follows: "the variable takes the target, all nodes are evaluated". Only nodes above it can change. None where
+/// the tape cannot serve it, and it is unfinished.
 pub fn finish_move(
-    bytes: &[u8],
-    los: &[u64],
-    his: &[u64],
-    slots: &[u16],
+    run: &Prepared,
     values: &mut [u64],
-    tape: &[u64],
+    tape: Tape,
     count: u64,
-    at: usize,
     made: u64,
-) -> Turn
-    requires { Drawing bytes.now los.now his.now values.old tape.now count at made × Indexed bytes.now slots.now }
-    ensures { Turned (problem bytes.now) values.old tape.now at made values.new result }
+) -> Option<Turn>
+    requires drawing { Drawing run.now values.old tape count made }
+    requires indexed { Indexed run.now.pairs.problem.bytes.now run.now.slots.now }
+    ensures { Turned (prob_in run.now) values.old tape.entry.words.now tape.entry.at made values.new result }
 {
-    let stop = make_move(bytes, los, his, values, tape, count, at, made);
-    match stop {
-        Stop::Sets(n, v, steps, next) => {
-            values[n as usize] = v;
-            let above = evaluate_above(bytes, slots, values, n);
-            Turn::Finished(above, steps, next)
+    let stop = make_move(run, values, tape, count, made)?;
+    let above = match stop.set {
+        Some(set) => {
+            values[usize::from(set.node)] = set.value;
+            let readers = Readers {
+                problem: run.pairs.problem,
+                slots: run.slots,
+            };
+            evaluate_above(readers, values, set.node)
         }
-        Stop::Stuck(steps, next) => Turn::Finished(0, steps, next),
-        Stop::Short => Turn::Unfinished,
-    }
+        None => 0,
+    };
+    Some(Turn {
+        above,
+        steps: stop.steps,
+        next: stop.next,
+    })
 }

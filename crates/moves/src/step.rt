@@ -3,20 +3,20 @@ ghost use Rattle.std.specs.Prelude.{◌≡◌, ◌/◌, ◌%◌, ◌≤◌, ◌<
 ghost use Rattle.picking.specs.Spot.{positions, Candidate, Asked};
 ghost use Rattle.essentials.specs.inner.Marks.{Marks};
 ghost use Rattle.moves.specs.Step.{Step as StepMade, Follows};
-ghost use Rattle.moves.specs.inner.Moves.{out_of, listed, Open, FixedPast, Stepping};
+ghost use Rattle.moves.specs.inner.Moves.{out_of, way_out, listed, Open, FixedPast, Stepping};
 
+use crate::tape::Draw;
 use essentials::{essential_positions, marks};
 use picking::{Spot, pick_consistent, pick_inverse};
-use words::Found;
 
 // The position numbered k among those that a number m marks, for each k and m: in the k-th sixteen bits the m-th two.
 const PLACES: u64 = 0x8000_6840_1210;
 
-// What a step comes to: the position that is followed, and the pick there.
-#[derive(Clone, Copy)]
+// The position that a step follows, and the value that is picked there.
+#[derive(Clone, Copy, Debug, PartialEq, Eq)]
 pub(crate) struct Way {
     pub position: u32,
-    pub found: Found,
+    pub value: u64,
 }
 
 // The positions whose operand is not fully fixed, each a bit. (Those that the kind has not hold pairs that are.)
@@ -29,12 +29,13 @@ fn open_positions(s: Spot) -> u32
     marks(lo.a != hi.a, lo.b != hi.b, lo.c != hi.c)
 }
 
-// How many positions m marks: of each bit, 1, 2 or 4, its half and its quarter leave 1.
+// How many positions m marks.
+#[tactic(auto, using(crate::proofs::Steps::ones_are))]
 fn count(m: u32) -> u64
     requires { m < 8 }
     ensures { result ≡ length (listed m) }
 {
-    (m - m / 2 - m / 4) as u64
+    u64::from(m.count_ones())
 }
 
 // "Candidates are the essential positions if there are any, else all; then those whose operand is fully fixed are dropped."
@@ -63,17 +64,18 @@ fn numbered(m: u32, k: u64) -> u32
 }
 
 // "If e is even and the inverse set has members, pick there with p; otherwise pick in the consistent set."
-fn pick_at(s: Spot, t: u64, e: u64, p: u64, i: u32) -> Found
+#[tactic(auto, using(crate::proofs::Steps::follows_consistent))]
+fn pick_at(s: Spot, t: u64, draw: Draw, i: u32) -> Option<u64>
     requires { Asked s i t }
-    ensures { Follows s t e p i (out_of i result) }
+    ensures { Follows s t draw.e draw.p i (out_of i result) }
 {
-    if e % 2 == 0 {
-        let found = pick_inverse(s, i, t, p);
-        if let Found::At(v) = found {
-            return Found::At(v);
+    if draw.e % 2 == 0 {
+        let found = pick_inverse(s, i, t, draw.p);
+        if let Some(v) = found {
+            return Some(v);
         }
     }
-    pick_consistent(s, i, t, p)
+    pick_consistent(s, i, t, draw.p)
 }
 
 // Which of so many candidates is followed: "(e div 2) modulo their count". There are at most three, and to divide by a number
@@ -89,21 +91,22 @@ fn chosen(e: u64, n: u64) -> u64
     }
 }
 
-// "None left: the move ends blocked. Else the candidate numbered (e div 2) modulo their count .. is followed."
-pub(crate) fn step(s: Spot, t: u64, e: u64, p: u64) -> Way
+// None where the move ends blocked. "None left: the move ends blocked. Else the candidate numbered (e div 2) modulo their count .. is followed."
+pub(crate) fn step(s: Spot, t: u64, draw: Draw) -> Option<Way>
     requires { Stepping s t }
-    ensures { StepMade s t e p (out_of result.position result.found) }
+    ensures { StepMade s t draw.e draw.p (way_out result) }
 {
     let m = candidates(s, t);
     let n = count(m);
     if n == 0 {
-        return Way {
-            position: 0,
-            found: Found::Nothing,
-        };
+        return None;
     }
-    let k = chosen(e, n);
-    let i = numbered(m, k);
-    let found = pick_at(s, t, e, p, i);
-    Way { position: i, found }
+    let k = chosen(draw.e, n);
+    let position = numbered(m, k);
+    // As a `let` with `else`, which is the form of each pick that may find nothing.
+    let found = pick_at(s, t, draw, position);
+    let Some(value) = found else {
+        return None;
+    };
+    Some(Way { position, value })
 }

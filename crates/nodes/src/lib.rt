@@ -7,8 +7,11 @@ mod operands;
 mod pairs;
 mod spot;
 mod values;
+mod view;
 
+pub use due::Scope;
 pub use operands::operand;
 pub use pairs::fill;
 pub use spot::spot_of;
-pub use values::{Taken, taken_at};
+pub use values::taken_at;
+pub use view::Pairs;

@@ -4,24 +4,22 @@ ghost use Rattle.nodes.specs.inner.Nodes.{Spotted, spot_in};
 
 use crate::operands::{held, widths_of};
 use operators::operand_count;
-use picking::{Spot, Three};
+use picking::Spot;
 use problem::Node;
 
+/// Of plain lists: it asks no more than that they have a place for each operand.
+// (los and his and no `Pairs`: it asks less than that holds.)
+#[tactic(auto, unfolding(crate::specs::inner::Nodes::spot_in))]
 pub fn spot_of(bytes: &[u8], los: &[u64], his: &[u64], values: &[u64], n: Node) -> Spot
     requires { Spotted los.now his.now values.now n }
     ensures { result ≡ spot_in bytes.now los.now his.now values.now n }
 {
     let count = operand_count(n.kind);
-    let w = widths_of(bytes, n, count);
     Spot {
         kind: n.kind,
-        width: n.width as u32,
-        low: n.b as u32,
-        widths: Three {
-            a: w.a as u64,
-            b: w.b as u64,
-            c: w.c as u64,
-        },
+        width: u32::from(n.width),
+        low: u32::from(n.b),
+        widths: widths_of(bytes, n, count),
         los: held(los, n, count),
         his: held(his, n, count),
         current: held(values, n, count),

@@ -2,6 +2,7 @@
 // Callers write operators::sum, operators::Op: the modules are for the reader.
 #![tactic(auto)]
 
+pub mod kind;
 mod meaning;
 mod signed;
 mod table;

@@ -3,7 +3,7 @@ ghost use Rattle.std.specs.Prelude.{◌≡◌, ◌+◌, ◌-◌, ◌*◌, ◌/�
 ghost use Rattle.operators.specs.Meaning.{quotient as quotient_of};
 
 // An operator in its place: its kind, its node's width, the widths of operands a and b, and its lowest bit (extract).
-#[derive(Clone, Copy)]
+#[derive(Clone, Copy, Debug, PartialEq, Eq)]
 pub struct Op {
     pub kind: u8,
     pub width: u32,
@@ -21,6 +21,7 @@ pub fn ones(w: u32) -> u64
 }
 
 // not a, of w bits.
+// (A width is a number with its bounds in a clause, here and in the crates above: it is a node's field, and a type would be made of it at each call.)
 pub fn flip(a: u64, w: u32) -> u64
     requires { (1 ≤ w) × (w ≤ 64) × (a < 2 ^ w) }
     ensures { result ≡ (2 ^ w - 1) - a }
@@ -33,7 +34,7 @@ pub fn sum(a: u64, b: u64, w: u32) -> u64
     requires { (1 ≤ w) × (w ≤ 64) }
     ensures { result ≡ (a + b) % 2 ^ w }
 {
-    words::to_width(std::num::wrapping_add_u64(a, b), w)
+    words::to_width(a.wrapping_add(b), w)
 }
 
 // a · b modulo 2^w.

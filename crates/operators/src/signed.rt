@@ -18,7 +18,7 @@ fn turn(a: u64, w: u32) -> u64
     requires { (1 ≤ w) × (w ≤ 64) }
     ensures { result ≡ turned w a }
 {
-    words::to_width(std::num::wrapping_add_u64(a, half(w)), w)
+    words::to_width(a.wrapping_add(half(w)), w)
 }
 
 // Whether a is below b as signed words.
@@ -34,7 +34,7 @@ pub fn below_signed(a: u64, b: u64, w: u32) -> u64
     requires { (1 ≤ w) × (w ≤ 64) × (a < 2 ^ w) × (b < 2 ^ w) }
     ensures { result ≡ flag (signed_less w a b) }
 {
-    less_signed(a, b, w) as u64
+    u64::from(less_signed(a, b, w))
 }
 
 // a shifted right by any amount, its sign filling.

@@ -2,8 +2,10 @@
 ghost use Rattle.std.specs.Prelude.{◌≡◌};
 ghost use Rattle.operators.specs.Table.{shape_of, rule_holds};
 
+use crate::kind;
+
 // The width rules of the table's last column.
-#[derive(Clone, Copy)]
+#[derive(Clone, Copy, Debug, PartialEq, Eq)]
 pub enum Rule {
     // variable, constant: none
     Free,
@@ -26,7 +28,7 @@ pub enum Rule {
 }
 
 // What a kind uses: so many operands, so many of the fields a, b, c, and its width rule.
-#[derive(Clone, Copy)]
+#[derive(Clone, Copy, Debug, PartialEq, Eq)]
 pub struct Shape {
     pub operands: u8,
     pub fields: u8,
@@ -36,105 +38,74 @@ pub struct Shape {
 // How many kinds there are: who asks whether a number is a kind's reads this.
 pub const KINDS: u8 = 18;
 
+// The rows that more than one kind has.
+const NO_OPERAND: Shape = Shape {
+    operands: 0,
+    fields: 0,
+    rule: Rule::Free,
+};
+
+const ALIKE: Shape = Shape {
+    operands: 2,
+    fields: 2,
+    rule: Rule::Both,
+};
+
+const COMPARED: Shape = Shape {
+    operands: 2,
+    fields: 2,
+    rule: Rule::Equal,
+};
+
 const SHAPES: [Shape; KINDS as usize] = [
-    // 0 variable, 1 constant
-    Shape {
-        operands: 0,
-        fields: 0,
-        rule: Rule::Free,
-    },
-    Shape {
-        operands: 0,
-        fields: 0,
-        rule: Rule::Free,
-    },
-    // 2 not
+    // variable, constant
+    NO_OPERAND,
+    NO_OPERAND,
+    // not
     Shape {
         operands: 1,
         fields: 1,
         rule: Rule::One,
     },
-    // 3 and, 4 xor
-    Shape {
-        operands: 2,
-        fields: 2,
-        rule: Rule::Both,
-    },
-    Shape {
-        operands: 2,
-        fields: 2,
-        rule: Rule::Both,
-    },
-    // 5 add, 6 mul
-    Shape {
-        operands: 2,
-        fields: 2,
-        rule: Rule::Both,
-    },
-    Shape {
-        operands: 2,
-        fields: 2,
-        rule: Rule::Both,
-    },
-    // 7 shl, 8 lshr
-    Shape {
-        operands: 2,
-        fields: 2,
-        rule: Rule::Both,
-    },
-    Shape {
-        operands: 2,
-        fields: 2,
-        rule: Rule::Both,
-    },
-    // 9 eq, 10 below
-    Shape {
-        operands: 2,
-        fields: 2,
-        rule: Rule::Equal,
-    },
-    Shape {
-        operands: 2,
-        fields: 2,
-        rule: Rule::Equal,
-    },
-    // 11 if
+    // and, xor, add, mul, shl, lshr
+    ALIKE,
+    ALIKE,
+    ALIKE,
+    ALIKE,
+    ALIKE,
+    ALIKE,
+    // eq, below
+    COMPARED,
+    COMPARED,
+    // if
     Shape {
         operands: 3,
         fields: 3,
         rule: Rule::Choice,
     },
-    // 12 concat
+    // concat
     Shape {
         operands: 2,
         fields: 2,
         rule: Rule::Sum,
     },
-    // 13 extract
+    // extract
     Shape {
         operands: 1,
         fields: 2,
         rule: Rule::Part,
     },
-    // 14 slt
-    Shape {
-        operands: 2,
-        fields: 2,
-        rule: Rule::Equal,
-    },
-    // 15 ashr
-    Shape {
-        operands: 2,
-        fields: 2,
-        rule: Rule::Both,
-    },
-    // 16 sext
+    // slt
+    COMPARED,
+    // ashr
+    ALIKE,
+    // sext
     Shape {
         operands: 1,
         fields: 1,
         rule: Rule::Longer,
     },
-    // 17 udiv
+    // udiv
     Shape {
         operands: 2,
         fields: 2,
@@ -147,13 +118,9 @@ pub fn shape_of(kind: u8) -> Shape
     ensures { result ≡ shape_of kind }
 {
     if kind < KINDS {
-        return SHAPES[kind as usize];
+        return SHAPES[usize::from(kind)];
     }
-    Shape {
-        operands: 0,
-        fields: 0,
-        rule: Rule::Free,
-    }
+    NO_OPERAND
 }
 
 // The operand count of a kind, decided by `match`: the table is made anew wherever it is read, which a search pays at each
@@ -162,14 +129,16 @@ pub fn operand_count(kind: u8) -> u8
     ensures { result ≡ (shape_of kind).operands }
 {
     match kind {
-        2 | 13 | 16 => 1,
-        11 => 3,
-        3..=10 | 12 | 14..=15 | 17 => 2,
-        0..=1 | 18..=255 => 0,
+        kind::NOT | kind::EXTRACT | kind::SEXT => 1,
+        kind::IF => 3,
+        kind::AND..=kind::BELOW | kind::CONCAT | kind::SLT..=kind::ASHR | kind::UDIV => 2,
+        kind::VARIABLE..=kind::CONSTANT | KINDS..=u8::MAX => 0,
     }
 }
 
 // Whether a width rule holds, of the node's width w, its operands' widths and its field b.
+// (Six parameters: the numbers of one row, as the definition has them.)
+#[tactic(auto, unfolding(crate::specs::Table::rule_holds))]
 pub fn rule_holds(rule: Rule, w: u8, wa: u8, wb: u8, wc: u8, b: u16) -> bool
     ensures { result ≡ rule_holds rule w wa wb wc b }
 {
@@ -179,8 +148,8 @@ pub fn rule_holds(rule: Rule, w: u8, wa: u8, wb: u8, wc: u8, b: u16) -> bool
         Rule::Both => (wa == w) & (wb == w),
         Rule::Equal => (wa == wb) & (w == 1),
         Rule::Choice => (wa == 1) & (wb == w) & (wc == w),
-        Rule::Sum => (wa as u16) + (wb as u16) == (w as u16),
-        Rule::Part => (b as u32) + (w as u32) <= (wa as u32),
+        Rule::Sum => u16::from(wa) + u16::from(wb) == u16::from(w),
+        Rule::Part => u32::from(b) + u32::from(w) <= u32::from(wa),
         Rule::Longer => wa < w,
         Rule::Narrow => (wa == w) & (wb == w) & (w <= 16),
     }

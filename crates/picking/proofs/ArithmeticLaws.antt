@@ -1,18 +1,18 @@
 -- Add and mul: what solves their equations.
-use Rattle.std.proofs.Common.{◌≡◌, ℕ, ◌+◌, ◌-◌, ◌*◌, ◌/◌, ◌%◌, ◌^◌, ◌<◌, sym, refl, ap, ◌∙◌, lt_of_lt_of_le, mod-eq_of_lt, mul_comm, add_comm, add-one, pow_pos, pow_mono}
+use Rattle.std.proofs.Common.{◌≡◌, ℕ, ◌+◌, ◌-◌, ◌*◌, ◌/◌, ◌%◌, ◌^◌, ◌<◌, sym, ap, ◌∙◌, lt_of_lt_of_le, mod-eq_of_lt, mul_comm, add_comm, add-one, pow_pos, pow_mono}
 use native.Mathlib.Nat.{mod-mod}
 use Rattle.words.specs.Agree.{Agrees}
 use Rattle.words.specs.laws.Agree.{within_refl, agrees_of_within}
 use Rattle.words.specs.inner.Words.{WordInverse, Tail}
 use Rattle.words.specs.laws.Modular.{same_sub, same_add, same_fewer}
-use Rattle.words.specs.laws.Mul.{MulInverse, mul_to, mul_back, mul_none, mul_zero_gives}
+use Rattle.words.specs.laws.Mul.{MulInverse, mul_to, mul_back, mul_none}
 use Rattle.words.specs.laws.Consist.{reach_some, some_reach}
 use Rattle.boxes.specs.declared.Set.{Set}
 use Rattle.boxes.specs.declared.Set.TheVariants.{Empty, Many}
 use Rattle.boxes.specs.declared.unions.Union.TheVariants.{Low}
-use Rattle.boxes.specs.inner.Boxes.{Solves, Every, Some}
+use Rattle.boxes.specs.inner.Boxes.{Solves, SomeWord}
 use Rattle.picking.specs.inner.Asks.{Sized}
-use Rattle.boxes.specs.laws.Solves.{solves_by, solves_all, solves_none}
+use Rattle.boxes.specs.laws.Solves.{solves_by, solves_none}
 
 -- ---- sums and products do not mind the order
 pub sum_comm : (w x y : ℕ) → (x + y) % 2 ^ w ≡ (y + x) % 2 ^ w
@@ -32,8 +32,6 @@ add_by {w} {t} s d z ed ec m =
     sum = same_fewer (d + s) t z.wide (ed ∙ sym (mod-eq_of_lt (lt_of_lt_of_le z.fits (pow_mono z.wide)))) ∙ mod-eq_of_lt z.fits
 
 -- ---- mul
-pub mul_zero : (w v s : ℕ) → s ≡ 0 → v * s % 2 ^ w ≡ 0
-mul_zero w v s e = ap (λ (n : ℕ). v * n % 2 ^ w) e ∙ mul_zero_gives w v 0 refl
 
 itself : (v : ℕ) → Agrees v v v
 itself v = agrees_of_within (within_refl v) (within_refl v)
@@ -58,10 +56,8 @@ module _ {w s t k : ℕ} (z : Sized w t) (hs : s < 2 ^ w) (tail : Tail 64 s k) w
       (λ v l e. (mul_to w s t v v k i y z.wide z.fits hs tail inv.inverse ey c ec v (member v e)).ends)
 
 -- ---- some factor
-pub some_mul_zero : {w t : ℕ} {r : Set} → Sized w t → t ≡ 0 → Solves 64 Every r → Solves w (λ v. Some w (λ s. v * s % 2 ^ w ≡ t)) r
-some_mul_zero {w} {t} z e m = solves_all z.wide m (λ v l. record { by = 0; fits = pow_pos w; gives = mul_zero_gives w v t e })
 
-pub some_mul : {w t k : ℕ} → Sized w t → Tail 64 t k → Solves w (λ v. Some w (λ s. v * s % 2 ^ w ≡ t)) (Many (Low (k + 1)))
+pub some_mul : {w t k : ℕ} → Sized w t → Tail 64 t k → Solves w (λ v. SomeWord w (λ s. v * s % 2 ^ w ≡ t)) (Many (Low (k + 1)))
 some_mul {w} {t} {k} z tail = rw (add-one k) record {
   fine = tail.short;
   to = λ v l m. let r = some_reach w 64 t k z.fits tail v l m in record { by = r.by; fits = r.fits; gives = r.gives };

@@ -77,10 +77,6 @@ xor_back a b =
     one : (x y : ℕ) → x < 2 → y < 2 → ((x + y) % 2 + y) % 2 ≡ x
     one x y hx hy = omega arith
 
-pub xor_by : {r : Set} (s t : ℕ) → Solves 64 (λ v. v ≡ bit_xor t s) r → Solves 64 (λ v. bit_xor v s ≡ t) r
-xor_by s t z =
-    solves_by (le_refl 64) z (λ v l e. ap (λ (n : ℕ). bit_xor n s) e ∙ xor_back t s) (λ v l e. sym (xor_back v s) ∙ ap (λ (n : ℕ). bit_xor n s) e)
-
 -- t, xored with a pair: free where that is
 module _ (l h t : ℕ) (o : Within l h) where
   abbrev least : ℕ

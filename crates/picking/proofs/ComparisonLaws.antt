@@ -20,9 +20,6 @@ flag_zero : (b : Bool) → flag b ≡ 0 → b ≡ false
 flag_zero false e = refl
 flag_zero true e = absurd (omega arith)
 
-pub equal_yes : (x y : ℕ) → flag (eqb x y) ≡ 1 → x ≡ y
-equal_yes x y e = eqb-true x y (flag_one (eqb x y) e)
-
 pub equal_no : (x y : ℕ) → flag (eqb x y) ≡ 0 → x ≡ y → ⊥
 equal_no x y e = eqb-false x y (flag_zero (eqb x y) e)
 
@@ -64,11 +61,6 @@ position_one i h f = bit_one_of i h f
 
 -- eq: the value itself, or another one
 module _ {l h t : ℕ} {r : Set} where
-  pub some_equal : t ≡ 1 → Solves 64 (Agrees l h) r → Solves 64 (λ v. SomeAgreeing l h (λ s. flag (eqb v s) ≡ t)) r
-  some_equal e m =
-      solves_by (le_refl 64) m (λ v b g. record { by = v; fits = g; gives = yes_equal v v refl ∙ sym e })
-      (λ v b q. rw (equal_yes v q.by (q.gives ∙ e)) q.fits)
-
   -- there is only one
   pub some_apart : t ≡ 0 → Within l h → l ≡ h → Solves 64 (λ v. v ≡ l → ⊥) r → Solves 64 (λ v. SomeAgreeing l h (λ s. flag (eqb v s) ≡ t)) r
   some_apart e o d m =

@@ -1,14 +1,14 @@
 -- Division: which dividends and which divisors give a quotient.
-use Rattle.std.proofs.Common.{◌≡◌, ℕ, zero, suc, ◌+◌, ◌-◌, ◌*◌, ◌/◌, ◌%◌, ◌^◌, ◌<◌, ◌≤◌, sym, refl, ap, ◌∙◌, zero-le, le_trans, le_of_eq, le_refl, lt_of_lt_of_le, not-suc-le-zero, lt_of_le_of_lt, le_of_lt, mul_comm, div-lt_iff_lt-mul, mul-le-mul, pos_of_ne-zero, mul-le-mul_left, le-div_iff_mul-le, div-le_self, div-mul-le_self, div-one, mul-div_cancel, arith, pow_pos, pow_mono}
-use native.Mathlib.Nat.{div-eq_of_lt, div-eq_of_lt-le, div-add-mod, lt-div-mul-add, zero-div}
+use Rattle.std.proofs.Common.{◌≡◌, ℕ, zero, suc, ◌+◌, ◌-◌, ◌*◌, ◌/◌, ◌%◌, ◌^◌, ◌<◌, ◌≤◌, sym, refl, ap, ◌∙◌, zero-le, le_trans, le_of_eq, lt_of_lt_of_le, not-suc-le-zero, lt_of_le_of_lt, mul_comm, div-lt_iff_lt-mul, pos_of_ne-zero, mul-le-mul_left, le-div_iff_mul-le, div-le_self, div-mul-le_self, mul-div_cancel, arith, pow_pos, pow_mono}
+use native.Mathlib.Nat.{div-eq_of_lt, div-eq_of_lt-le, div-add-mod, lt-div-mul-add}
 use lib.Pow.{ones_lt, le_ones}
 use Rattle.operators.specs.Meaning.{quotient}
 use Rattle.boxes.specs.declared.Set.{Set}
 use Rattle.boxes.specs.declared.Set.TheVariants.{Many}
 use Rattle.boxes.specs.declared.unions.Union.TheVariants.{Dividends}
-use Rattle.boxes.specs.inner.Boxes.{Solves, Every, Some}
+use Rattle.boxes.specs.inner.Boxes.{Solves, SomeWord}
 use Rattle.picking.specs.inner.Asks.{Short}
-use Rattle.boxes.specs.laws.Solves.{solves_by, solves_all, same_by}
+use Rattle.boxes.specs.laws.Solves.{solves_by}
 
 -- ---- the quotient by a divisor that is not 0
 
@@ -50,18 +50,11 @@ short_wide : {w t : ℕ} → Short w t → w ≤ 64
 short_wide z = omega (arith, z.short)
 
 -- ---- products of words of 16 bits
-small_product : (a b : ℕ) → a < 2 ^ 31 → b < 2 ^ 31 → a * b + b < 2 ^ 64
-small_product a b ha hb = let h : a * b ≤ 2 ^ 62 = mul-le-mul (le_of_lt ha) (le_of_lt hb) in omega arith
 
 pub short_lt : {w x : ℕ} → w ≤ 16 → x < 2 ^ w → x < 2 ^ 16
 short_lt h l = lt_of_lt_of_le l (pow_mono h)
 
-pub dividend_fits : {w s t : ℕ} → Short w t → s < 2 ^ w → t * s + s < 2 ^ 64
-dividend_fits {w} {s} {t} z h = small_product t s (omega (arith, short_lt z.short z.fits)) (omega (arith, short_lt z.short h))
-
 -- ---- the dividend
-pub dividend_none : {w s t m : ℕ} {r : Set} → Short w t → s ≡ 0 → m ≡ 2 ^ w - 1 → Solves 64 (λ v. m ≡ t) r → Solves w (λ v. quotient w v s ≡ t) r
-dividend_none {w} {s} z e em = same_by (λ v. quotient w v s) (short_wide z) (λ v l. ap (quotient w v) e ∙ sym em)
 
 pub dividend_by : {w s t : ℕ} {r : Set} → Short w t → (s ≡ 0 → ⊥) → Solves 64 (λ v. (t * s ≤ v) × (v ≤ t * s + (s - 1))) r → Solves w (λ v. quotient w v s ≡ t) r
 dividend_by {w} {s} {t} z f m =
@@ -117,20 +110,8 @@ module _ {w x t : ℕ} {r : Set} (z : Short w t) (hx : x < 2 ^ w) where
 
 -- ---- a dividend for some divisor
 module _ {w t : ℕ} (z : Short w t) where
-  pub some_dividend_ones : {r : Set} → t ≡ 2 ^ w - 1 → Solves 64 Every r → Solves w (λ v. Some w (λ s. quotient w v s ≡ t)) r
-  some_dividend_ones e m = solves_all (short_wide z) m (λ v l. record { by = 0; fits = pow_pos w; gives = sym e })
-
-  pub some_dividend_zero : {m : ℕ} {r : Set} → m ≡ 2 ^ w - 1 → t ≡ 0 → Solves 64 (λ v. v < m) r → Solves w (λ v. Some w (λ s. quotient w v s ≡ t)) r
-  some_dividend_zero {m} em e h =
-      solves_by (short_wide z) h (λ v l k. record { by = suc v; fits = omega (arith, pow_pos w); gives = div-eq_of_lt (le_refl (suc v)) ∙ sym e })
-      (λ v l q.
-      let y = q.by in
-      let p = divisor_some w v y t (λ o. ones_some w z.some (sym e ∙ o)) q.gives in
-      let b : v < y = once e (quoted_back w v y t p q.gives).high in
-      omega (arith, q.fits))
-
   -- v / t is a divisor that takes v to t exactly if the rest is less than it; and where some divisor does, it does
-  pub some_dividend : {m : ℕ} → m ≡ 2 ^ w - 1 → (t ≡ 0 → ⊥) → (t ≡ m → ⊥) → Solves w (λ v. Some w (λ s. quotient w v s ≡ t)) (Many (Dividends t m))
+  pub some_dividend : {m : ℕ} → m ≡ 2 ^ w - 1 → (t ≡ 0 → ⊥) → (t ≡ m → ⊥) → Solves w (λ v. SomeWord w (λ s. quotient w v s ≡ t)) (Many (Dividends t m))
   some_dividend {m} em f g =
       record {
         fine = (some, short_lt z.short z.fits, rw em (short_lt z.short (ones_lt w)));
@@ -153,31 +134,8 @@ module _ {w t : ℕ} (z : Short w t) where
           rest v (v % t) y (v / t) (t * (v / t)) (t * y) (div-add-mod v t) (mul-le-mul_left t c) (lt_of_lt_of_le k.high (le_of_eq (omega arith))) c
 
   -- ---- a divisor for some dividend
-  pub some_divisor_ones : {r : Set} → t ≡ 2 ^ w - 1 → Solves 64 (λ v. (0 ≤ v) × (v ≤ 1)) r → Solves w (λ v. Some w (λ s. quotient w s v ≡ t)) r
-  some_divisor_ones e m = solves_by (short_wide z) m (λ v l h. give v h.1) (λ v l q. (zero-le, few v q.by q.fits q.gives))
-    where
-      give : (v : ℕ) → v ≤ 1 → Some w (λ s. quotient w s v ≡ t)
-      give zero h = record { by = 0; fits = pow_pos w; gives = sym e }
-      give (suc zero) h = record { by = 2 ^ w - 1; fits = ones_lt w; gives = div-one (2 ^ w - 1) ∙ sym e }
-      give (suc (suc v)) h = absurd (omega arith)
 
-      few : (v s : ℕ) → s < 2 ^ w → quotient w s v ≡ t → v ≤ 1
-      few zero s h q = zero-le
-      few (suc zero) s h q = le_refl 1
-      few (suc (suc v)) s h q =
-          let k = (quoted_back w s (suc (suc v)) t (omega arith) q).low in
-          let u : 0 < t = pos_of_ne-zero (λ o. ones_some w z.some (sym o ∙ e)) in
-          absurd (over (t * suc (suc v)) (le_trans (le_of_eq (omega arith)) (mul-le-mul_left {m = 2} {n = suc (suc v)} t (omega arith))) u k)
-        where
-          over : (p : ℕ) → t * 2 ≤ p → 0 < t → p ≤ s → ⊥
-          over p a b c = omega arith
-
-  pub some_divisor_zero : {r : Set} → t ≡ 0 → Solves 64 (λ v. 0 < v) r → Solves w (λ v. Some w (λ s. quotient w s v ≡ t)) r
-  some_divisor_zero e m =
-      solves_by (short_wide z) m (λ v l h. record { by = 0; fits = pow_pos w; gives = quotient_some w 0 v h ∙ zero-div v ∙ sym e })
-      (λ v l q. divisor_some w q.by v t (λ o. ones_some w z.some (sym e ∙ o)) q.gives)
-
-  pub some_divisor : {m : ℕ} {r : Set} → m ≡ 2 ^ w - 1 → (t ≡ 0 → ⊥) → (t ≡ m → ⊥) → Solves 64 (λ v. (1 ≤ v) × (v ≤ m / t)) r → Solves w (λ v. Some w (λ s. quotient w s v ≡ t)) r
+  pub some_divisor : {m : ℕ} {r : Set} → m ≡ 2 ^ w - 1 → (t ≡ 0 → ⊥) → (t ≡ m → ⊥) → Solves 64 (λ v. (1 ≤ v) × (v ≤ m / t)) r → Solves w (λ v. SomeWord w (λ s. quotient w s v ≡ t)) r
   some_divisor {m} em f g h =
       solves_by (short_wide z) h
       (λ v l k. record {

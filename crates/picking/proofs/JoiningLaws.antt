@@ -1,5 +1,5 @@
 -- Concat and extract: the parts of a joined word, and the ternary word that has given bits.
-use Rattle.std.proofs.Common.{◌≡◌, ℕ, zero, suc, ◌+◌, ◌-◌, ◌*◌, ◌/◌, ◌%◌, ◌^◌, ◌<◌, ◌≤◌, sym, refl, ap, ◌∙◌, ⊎_elim, zero-le, le_of_eq, le_refl, lt_of_lt_of_le, mod-eq_of_lt, arith, pow_mono, shl_lt, shl_exact}
+use Rattle.std.proofs.Common.{◌≡◌, ℕ, zero, suc, ◌+◌, ◌-◌, ◌*◌, ◌/◌, ◌%◌, ◌^◌, ◌<◌, ◌≤◌, sym, ap, ◌∙◌, ⊎_elim, zero-le, le_of_eq, le_refl, lt_of_lt_of_le, mod-eq_of_lt, arith, pow_mono, shl_lt, shl_exact}
 use lib.Pow.{split, high, low, ones_sub-lt}
 use Rattle.words.specs.Bits.{bit}
 use Rattle.words.specs.laws.Bits.{bit_lt, bit_ext, bit_cut, bit_cut_high, bit_shr, bit_shl, bit_shl_low, bit_high, bit_not, split_at, lt_or_ge}
@@ -52,10 +52,6 @@ some_concat_by {i} {a} {b} {l} {h} {t} x y j short ex ey m =
     (λ v k e.
     let p = join_parts i a b j.position v e.by t k (agrees_lt (side_of (1 - i) a b) short e.fits) e.gives in
     (p.0 ∙ sym ex, rw (ey ∙ p.1) e.fits))
-
-pub part_rest : (i k t : ℕ) → (i ≡ 0 → ⊥) → t % 2 ^ k ≡ part_of i k t
-part_rest zero k t f = absurd (f refl)
-part_rest (suc i) k t f = refl
 
 -- ---- extract: the w bits from k on are t, those below and above are free
 module _ (w k t : ℕ) (kw : k + w ≤ 64) (ht : t < 2 ^ w) where

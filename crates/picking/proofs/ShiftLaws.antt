@@ -1,7 +1,7 @@
 -- Shl and lshr: what a shift by a given amount gives, and which amounts give a target.
 use Rattle.std.proofs.Common.{◌≡◌, ℕ, zero, suc, ◌+◌, ◌-◌, ◌*◌, ◌/◌, ◌%◌, ◌^◌, ◌<◌, ◌≤◌, sym, refl, ap, ◌∙◌, subst, ⊎_elim, zero-le, le_trans, le_of_eq, le_refl, lt_of_lt_of_le, le_of_suc-le-suc, lt_of_le_of_lt, le_of_lt, mul-le-mul_right, mod-eq_of_lt, pow-suc, lt_of_not-le, le-div_iff_mul-le, zero-mul, not-le_of_lt, div-mul-le_self, mul-div_cancel, arith, pow_pos, pow_mono, pow-add, shr_lt}
 use native.Mathlib.Nat.{mul-mod_left, zero-mod, zero-div, div-eq_of_lt, div-eq_of_lt-le, lt-div-mul-add}
-use lib.Pow.{split, shr_mono, shl-shr, shr_le, ones_lt, le_ones}
+use lib.Pow.{split, shl-shr, shr_le, ones_lt}
 use Rattle.words.specs.Bits.{bit}
 use Rattle.words.specs.laws.Bits.{bit_cut, bit_shl, lt_or_ge}
 use Rattle.words.specs.laws.Modular.{cut_cut}
@@ -13,7 +13,7 @@ use Rattle.boxes.specs.declared.Set.{Set}
 use Rattle.boxes.specs.declared.Set.TheVariants.{One, Many}
 use Rattle.boxes.specs.declared.unions.Row.TheVariants.{Left, Right}
 use Rattle.boxes.specs.declared.unions.Union.TheVariants.{Several}
-use Rattle.boxes.specs.inner.Boxes.{Among, span, Solves, Some}
+use Rattle.boxes.specs.inner.Boxes.{Among, span, Solves, SomeWord}
 use Rattle.picking.specs.inner.Asks.{Sized, joint}
 use Rattle.boxes.specs.laws.Solves.{in_low, low_in, in_word, in_span, span_solves, solves_by}
 
@@ -107,7 +107,7 @@ module _ {w x i : ℕ} (wide : w ≤ 64) (tail : Tail 64 x i) where
       (λ (l : w ≤ v + i). absurd (f (sym m ∙ shl_gone v (omega arith)))) (lt_or_ge (v + i) w)
 
 -- ---- for some value of the other
-pub some_shl_zero : (i w v t : ℕ) → t ≡ 0 → Some w (λ s. (joint i v s).a * 2 ^ (joint i v s).b % 2 ^ w ≡ t)
+pub some_shl_zero : (i w v t : ℕ) → t ≡ 0 → SomeWord w (λ s. (joint i v s).a * 2 ^ (joint i v s).b % 2 ^ w ≡ t)
 some_shl_zero zero w v t e = record { by = w; fits = grow w; gives = shl_past w w v (le_refl w) ∙ sym e }
 some_shl_zero (suc i) w v t e = record { by = 0; fits = pow_pos w; gives = zero_shl w v 0 refl ∙ sym e }
 
@@ -120,10 +120,10 @@ module _ {w t j : ℕ} (z : Sized w t) (f : t ≡ 0 → ⊥) (tail : Tail 64 t j
   within s v m =
       ⊎_elim (λ (l : s < w). tail_le s tail (shl_clear w s v t (le_of_lt l) m)) (λ (l : w ≤ s). absurd (f (sym m ∙ shl_past w s v l))) (lt_or_ge s w)
 
-  pub some_shl : Solves w (λ v. Some w (λ s. v * 2 ^ s % 2 ^ w ≡ t)) (Many (Several (Left t w) (j + 1)))
+  pub some_shl : Solves w (λ v. SomeWord w (λ s. v * 2 ^ s % 2 ^ w ≡ t)) (Many (Several (Left t w) (j + 1)))
   some_shl = record { fine = (omega (arith, j_lt), z.wide, z.fits); to = to; back = back }
     where
-      to : (v : ℕ) → v < 2 ^ w → Among (Left t w) (j + 1) v → Some w (λ s. v * 2 ^ s % 2 ^ w ≡ t)
+      to : (v : ℕ) → v < 2 ^ w → Among (Left t w) (j + 1) v → SomeWord w (λ s. v * 2 ^ s % 2 ^ w ≡ t)
       to v h m =
           let s = m.at in
           let l : s ≤ j = let b = m.below in omega arith in
@@ -134,7 +134,7 @@ module _ {w t j : ℕ} (z : Sized w t) (f : t ≡ 0 → ⊥) (tail : Tail 64 t j
             gives = shl_gives w s v t sw (tail_clear s tail l) (in_low (w - s) (t / 2 ^ s) v (part_lt w s t sw z.fits) m.inside.inside);
           }
 
-      back : (v : ℕ) → v < 2 ^ w → Some w (λ s. v * 2 ^ s % 2 ^ w ≡ t) → Among (Left t w) (j + 1) v
+      back : (v : ℕ) → v < 2 ^ w → SomeWord w (λ s. v * 2 ^ s % 2 ^ w ≡ t) → Among (Left t w) (j + 1) v
       back v h m =
           let s = m.by in
           let l : s ≤ j = within s v m.gives in
@@ -142,7 +142,7 @@ module _ {w t j : ℕ} (z : Sized w t) (f : t ≡ 0 → ⊥) (tail : Tail 64 t j
           let v64 : v < 2 ^ 64 = lt_of_lt_of_le h (pow_mono z.wide) in
           record { at = s; below = omega arith; inside = in_word v64 (low_in (w - s) (t / 2 ^ s) v (part_lt w s t sw z.fits) v64 (shl_ends w s v t sw m.gives)) }
 
-  pub some_amount : {r : Set} → Solves 64 (λ v. (0 ≤ v) × (v ≤ j)) r → Solves w (λ v. Some w (λ s. s * 2 ^ v % 2 ^ w ≡ t)) r
+  pub some_amount : {r : Set} → Solves 64 (λ v. (0 ≤ v) × (v ≤ j)) r → Solves w (λ v. SomeWord w (λ s. s * 2 ^ v % 2 ^ w ≡ t)) r
   some_amount s =
       solves_by z.wide s
       (λ v l m. record { by = t / 2 ^ v; fits = lt_of_le_of_lt (shr_le t v) z.fits; gives = ap (λ (n : ℕ). n % 2 ^ w) (whole t v (tail_clear v tail m.1)) ∙ mod-eq_of_lt z.fits })
@@ -151,9 +151,6 @@ module _ {w t j : ℕ} (z : Sized w t) (f : t ≡ 0 → ⊥) (tail : Tail 64 t j
 -- ---- right: a quotient by 2 ^ s
 pub lshr_past : (s v : ℕ) → v < 2 ^ 64 → 64 ≤ s → v / 2 ^ s ≡ 0
 lshr_past s v l h = div-eq_of_lt (lt_of_lt_of_le l (pow_mono h))
-
-pub lshr_none : (s t : ℕ) → (2 ^ 64 - 1) / 2 ^ s < t → (v : ℕ) → v < 2 ^ 64 → v / 2 ^ s ≡ t → ⊥
-lshr_none s t h v l e = not-le_of_lt h (le_trans (le_of_eq (sym e)) (shr_mono s (le_ones 64 l)))
 
 span_to : (s t v : ℕ) → t * 2 ^ s ≤ v → v ≤ t * 2 ^ s + (2 ^ s - 1) → v / 2 ^ s ≡ t
 span_to s t v a b = div-eq_of_lt-le (2 ^ s) {m = v} a (omega (arith, b, pow_pos s))
@@ -213,7 +210,7 @@ module _ {x i : ℕ} (top : Top 64 x i) where
       (λ (l : v ≤ i). let e = top_unique (subst (λ (n : ℕ). Top 64 n (i - v)) m (top_lshr v l)) other in omega arith) (lt_or_ge i v)
 
 -- ---- for some value of the other
-pub some_lshr_zero : (i w v t : ℕ) → v < 2 ^ w → t ≡ 0 → Some w (λ s. (joint i v s).a / 2 ^ (joint i v s).b ≡ t)
+pub some_lshr_zero : (i w v t : ℕ) → v < 2 ^ w → t ≡ 0 → SomeWord w (λ s. (joint i v s).a / 2 ^ (joint i v s).b ≡ t)
 some_lshr_zero zero w v t h e = record { by = w; fits = grow w; gives = div-eq_of_lt h ∙ sym e }
 some_lshr_zero (suc i) w v t h e = record { by = 0; fits = pow_pos w; gives = zero-div (2 ^ v) ∙ sym e }
 
@@ -227,21 +224,21 @@ module _ {w t j : ℕ} (z : Sized w t) (top : Top 64 t j) where
   pub room : (s : ℕ) → j + s < w → t * 2 ^ s + 2 ^ s ≤ 2 ^ w
   room s l = le_trans (fit_ring t (2 ^ s) (2 ^ suc j) top.below) (le_trans (le_of_eq (sym (pow-add 2 (suc j) s))) (pow_mono (omega arith)))
 
-  pub some_lshr : Solves w (λ v. Some w (λ s. v / 2 ^ s ≡ t)) (Many (Several (Right t) (w - j)))
+  pub some_lshr : Solves w (λ v. SomeWord w (λ s. v / 2 ^ s ≡ t)) (Many (Several (Right t) (w - j)))
   some_lshr = record { fine = (omega (arith, z.wide), λ s l. le_trans (room s (omega arith)) (pow_mono z.wide)); to = to; back = back }
     where
-      to : (v : ℕ) → v < 2 ^ w → Among (Right t) (w - j) v → Some w (λ s. v / 2 ^ s ≡ t)
+      to : (v : ℕ) → v < 2 ^ w → Among (Right t) (w - j) v → SomeWord w (λ s. v / 2 ^ s ≡ t)
       to v h m =
           let b = m.below in
           record { by = m.at; fits = lt_of_le_of_lt (omega arith) (grow w); gives = span_to m.at t v m.inside.after m.inside.upto }
 
-      back : (v : ℕ) → v < 2 ^ w → Some w (λ s. v / 2 ^ s ≡ t) → Among (Right t) (w - j) v
+      back : (v : ℕ) → v < 2 ^ w → SomeWord w (λ s. v / 2 ^ s ≡ t) → Among (Right t) (w - j) v
       back v h m =
           let l = reach m.by v h m.gives in
           let b = span_back m.by t v m.gives in
           record { at = m.by; below = omega arith; inside = in_span _ _ v (lt_of_lt_of_le h (pow_mono z.wide)) b.0 b.1 }
 
-  pub some_right : {r : Set} → Solves 64 (λ v. (0 ≤ v) × (v ≤ w - j - 1)) r → Solves w (λ v. Some w (λ s. s / 2 ^ v ≡ t)) r
+  pub some_right : {r : Set} → Solves 64 (λ v. (0 ≤ v) × (v ≤ w - j - 1)) r → Solves w (λ v. SomeWord w (λ s. s / 2 ^ v ≡ t)) r
   some_right s =
       solves_by z.wide s
       (λ v l m. record { by = t * 2 ^ v; fits = let r = room v (fit v m.1) in omega (arith, pow_pos v); gives = shl-shr t v })

@@ -16,7 +16,7 @@ use Rattle.boxes.specs.declared.Set.{Set}
 use Rattle.boxes.specs.declared.Set.TheVariants.{One, Many}
 use Rattle.boxes.specs.declared.unions.Row.TheVariants.{Right, Mirrored, Ends}
 use Rattle.boxes.specs.declared.unions.Union.TheVariants.{Several}
-use Rattle.boxes.specs.inner.Boxes.{In, mirrored, Bounded, end_at, shifted_to, Among, Solves, Some, SomeAgreeing}
+use Rattle.boxes.specs.inner.Boxes.{In, mirrored, Bounded, end_at, shifted_to, Among, Solves, SomeWord, SomeAgreeing}
 use Rattle.picking.specs.inner.Asks.{Sized, Word, Folded, joint}
 use Rattle.boxes.specs.laws.Solves.{in_span, solves_by, shifted_bounded, in_mirror, mirror_in, mirror_solves, not_not}
 use Rattle.picking.proofs.ComparisonLaws.{less_yes, less_no, yes_less, no_less, least_by, most_by}
@@ -100,12 +100,6 @@ module _ {w s h : ℕ} (z : Word w s) (eh : h ≡ 2 ^ (w - 1)) where
   above_low l m =
       let b = low_s l in
       by_half m (λ v f a. (λ q. omega arith, λ q. (omega arith, omega arith))) (λ v f a. (λ q. omega arith, λ q. (omega arith, omega arith)))
-
-  pub above_last : {r : Set} → h ≤ s → s ≡ 2 ^ 64 - 1 → Solves 64 (λ v. (0 ≤ v) × (v ≤ h - 1)) r → Solves w (λ v. turned w s < turned w v) r
-  above_last l e m =
-      let b = high_s l in
-      by_half m (λ v f a. (λ q. omega arith, λ q. (zero-le, omega arith)))
-      (λ v f a. let k : v < 2 ^ 64 = lt_of_lt_of_le f.fits (pow_mono z.wide) in (λ q. omega arith, λ q. (omega arith, omega arith)))
 
   pub above_high : {r : Set} → h ≤ s → Solves 64 (λ v. (v ≤ h - 1) ⊎ (s + 1 ≤ v)) r → Solves w (λ v. turned w s < turned w v) r
   above_high l m =
@@ -254,7 +248,7 @@ module _ {w x h : ℕ} (z : Word w x) (eh : h ≡ 2 ^ (w - 1)) where
 -- ---- an operand for some amount
 
 -- nothing but the sign is left of t
-pub signs_low : {w t h : ℕ} {r : Set} → Word w t → h ≡ 2 ^ (w - 1) → t ≡ 0 → Solves 64 (λ v. (0 ≤ v) × (v ≤ h - 1)) r → Solves w (λ v. Some w (λ s. signed_shift w v s ≡ t)) r
+pub signs_low : {w t h : ℕ} {r : Set} → Word w t → h ≡ 2 ^ (w - 1) → t ≡ 0 → Solves 64 (λ v. (0 ≤ v) × (v ≤ h - 1)) r → Solves w (λ v. SomeWord w (λ s. signed_shift w v s ≡ t)) r
 signs_low {w} {t} {h} z eh e m =
     solves_by z.wide m
     (λ v l q. let k : v < 2 ^ (w - 1) = below v q.1 in record { by = w; fits = grow w; gives = ashr_low w w k ∙ div-eq_of_lt l ∙ sym e })
@@ -263,7 +257,7 @@ signs_low {w} {t} {h} z eh e m =
     below : (v : ℕ) → v ≤ h - 1 → v < 2 ^ (w - 1)
     below v l = omega (arith, pow_pos (w - 1))
 
-pub signs_high : {w t h : ℕ} {r : Set} → Word w t → h ≡ 2 ^ (w - 1) → t ≡ 2 ^ w - 1 → Solves 64 (λ v. (h ≤ v) × (v ≤ 2 ^ 64 - 1)) r → Solves w (λ v. Some w (λ s. signed_shift w v s ≡ t)) r
+pub signs_high : {w t h : ℕ} {r : Set} → Word w t → h ≡ 2 ^ (w - 1) → t ≡ 2 ^ w - 1 → Solves 64 (λ v. (h ≤ v) × (v ≤ 2 ^ 64 - 1)) r → Solves w (λ v. SomeWord w (λ s. signed_shift w v s ≡ t)) r
 signs_high {w} {t} {h} z eh e m =
     solves_by z.wide m
     (λ v l q. record { by = w; fits = grow w; gives = ashr_high w w z.some (le_trans (le_of_eq (sym eh)) q.0) l ∙ ap (λ (n : ℕ). (2 ^ w - 1) - n) (div-eq_of_lt (ones_sub-lt w v)) ∙ sub-zero (2 ^ w - 1) ∙ sym e })
@@ -296,27 +290,27 @@ module _ {w t u j : ℕ} (z : Word w t) (f : Folded w t u) (top : Top 64 u j) wh
   pub top_under : j < w - 1
   top_under = top_lt (w - 1) u j f.small top
 
-  some_of : {v : ℕ} (s : ℕ) → v < 2 ^ w → signed_shift w v s ≡ u → Some (w - 1) (λ s. v / 2 ^ s ≡ u)
+  some_of : {v : ℕ} (s : ℕ) → v < 2 ^ w → signed_shift w v s ≡ u → SomeWord (w - 1) (λ s. v / 2 ^ s ≡ u)
   some_of {v} s l e =
       let a = ashr_to z.some s l f.small e in
       let b = reach sized top s v a.0 a.1 in
       record { by = s; fits = lt_of_le_of_lt (omega arith) (grow (w - 1)); gives = a.1 }
 
-  row : Solves w (λ v. Some w (λ s. signed_shift w v s ≡ u)) (Many (Several (Right u) (w - 1 - j)))
+  row : Solves w (λ v. SomeWord w (λ s. signed_shift w v s ≡ u)) (Many (Several (Right u) (w - 1 - j)))
   row = record { fine = (some_lshr sized top).fine; to = to; back = λ v l m. (some_lshr sized top).back v (ashr_to z.some m.by l f.small m.gives).0 (some_of m.by l m.gives) }
     where
-      to : (v : ℕ) → v < 2 ^ w → Among (Right u) (w - 1 - j) v → Some w (λ s. signed_shift w v s ≡ u)
+      to : (v : ℕ) → v < 2 ^ w → Among (Right u) (w - 1 - j) v → SomeWord w (λ s. signed_shift w v s ≡ u)
       to v l m =
           let b = m.below in
           let k : v < 2 ^ (w - 1) = lt_of_le_of_lt m.inside.upto (let g = room sized top m.at (omega arith) in omega (arith, pow_pos m.at)) in
           let r = (some_lshr sized top).to v k m in
           record { by = r.by; fits = lt_of_lt_of_le r.fits (lower_lt w z.some); gives = ashr_low w r.by k ∙ r.gives }
 
-  pub row_same : u ≡ t → Solves w (λ v. Some w (λ s. signed_shift w v s ≡ t)) (Many (Several (Right u) (w - 1 - j)))
+  pub row_same : u ≡ t → Solves w (λ v. SomeWord w (λ s. signed_shift w v s ≡ t)) (Many (Several (Right u) (w - 1 - j)))
   row_same e =
       solves_by (le_refl w) row (λ v l m. record { by = m.by; fits = m.fits; gives = m.gives ∙ e }) (λ v l m. record { by = m.by; fits = m.fits; gives = m.gives ∙ sym e })
 
-  pub row_mirrored : (u ≡ t → ⊥) → Solves w (λ v. Some w (λ s. signed_shift w v s ≡ t)) (Many (Several (Mirrored u w) (w - 1 - j)))
+  pub row_mirrored : (u ≡ t → ⊥) → Solves w (λ v. SomeWord w (λ s. signed_shift w v s ≡ t)) (Many (Several (Mirrored u w) (w - 1 - j)))
   row_mirrored n =
       solves_by (le_refl w)
       (mirror_row z.some z.wide (omega arith) (λ i b. le_trans (room sized top i (omega arith)) (lower_lt w z.some)) row)
@@ -324,7 +318,7 @@ module _ {w t u j : ℕ} (z : Word w t) (f : Folded w t u) (top : Top 64 u j) wh
       (λ v l m. record { by = m.by; fits = m.fits; gives = negated_back z.some m.by l (f.other n) m.gives })
 
   -- ---- an amount for some operand
-  pub some_ashr_amount : {r : Set} → Solves 64 (λ v. (0 ≤ v) × (v ≤ w - 1 - j - 1)) r → Solves w (λ v. Some w (λ s. signed_shift w s v ≡ t)) r
+  pub some_ashr_amount : {r : Set} → Solves 64 (λ v. (0 ≤ v) × (v ≤ w - 1 - j - 1)) r → Solves w (λ v. SomeWord w (λ s. signed_shift w s v ≡ t)) r
   some_ashr_amount m = solves_by z.wide m (λ v l q. to v q.1) (λ v l q. (zero-le, back v q))
     where
       give : (v : ℕ) → v ≤ w - 1 - j - 1 → (u * 2 ^ v < 2 ^ (w - 1)) × (signed_shift w (u * 2 ^ v) v ≡ u)
@@ -333,7 +327,7 @@ module _ {w t u j : ℕ} (z : Word w t) (f : Folded w t u) (top : Top 64 u j) wh
           let k : u * 2 ^ v < 2 ^ (w - 1) = omega (arith, pow_pos v) in
           (k, ashr_low w v k ∙ shl-shr u v)
 
-      to : (v : ℕ) → v ≤ w - 1 - j - 1 → Some w (λ s. signed_shift w s v ≡ t)
+      to : (v : ℕ) → v ≤ w - 1 - j - 1 → SomeWord w (λ s. signed_shift w s v ≡ t)
       to v l =
           let g = give v l in
           let k : u * 2 ^ v < 2 ^ w = lt_of_lt_of_le g.0 (lower_lt w z.some) in
@@ -347,13 +341,13 @@ module _ {w t u j : ℕ} (z : Word w t) (f : Folded w t u) (top : Top 64 u j) wh
       near : (v s : ℕ) → s < 2 ^ w → signed_shift w s v ≡ u → v ≤ w - 1 - j - 1
       near v s l e = let a = ashr_to z.some v l f.small e in let b = reach sized top v s a.0 a.1 in omega arith
 
-      back : (v : ℕ) → Some w (λ s. signed_shift w s v ≡ t) → v ≤ w - 1 - j - 1
+      back : (v : ℕ) → SomeWord w (λ s. signed_shift w s v ≡ t) → v ≤ w - 1 - j - 1
       back v q =
           ⊎_elim (λ (e : u ≡ t). near v q.by q.fits (q.gives ∙ sym e))
           (λ (e : u ≡ (2 ^ w - 1) - t). near v ((2 ^ w - 1) - q.by) (ones_sub-lt w q.by) (negated_back z.some v q.fits e q.gives)) (either_way f)
 
 -- what has nothing but its sign is its own shift
-pub own_shift : {w t u : ℕ} → Word w t → Folded w t u → u ≡ 0 → (v : ℕ) → Some w (λ s. signed_shift w s v ≡ t)
+pub own_shift : {w t u : ℕ} → Word w t → Folded w t u → u ≡ 0 → (v : ℕ) → SomeWord w (λ s. signed_shift w s v ≡ t)
 own_shift {w} {t} {u} z f e v = record { by = t; fits = z.fits; gives = ⊎_elim same other (either_way f) }
   where
     zero_shift : (x : ℕ) → x ≡ 0 → signed_shift w x v ≡ 0
@@ -364,10 +358,6 @@ own_shift {w} {t} {u} z f e v = record { by = t; fits = z.fits; gives = ⊎_elim
 
     other : u ≡ (2 ^ w - 1) - t → signed_shift w t v ≡ t
     other d = negated_to z.some v z.fits d z.fits (zero_shift ((2 ^ w - 1) - t) (sym d ∙ e) ∙ sym e)
-
--- and is 0, or all ones
-pub sign_alone : {w t u : ℕ} → Word w t → Folded w t u → u ≡ 0 → (t ≡ 0 → ⊥) → t ≡ 2 ^ w - 1
-sign_alone {w} {t} {u} z f e n = let d = f.other (λ q. n (sym q ∙ e)) in omega (arith, le_ones w z.fits)
 
 -- ---- sign extension
 pub extended_by : {k t c x : ℕ} {r : Set} (w : ℕ) → k ≤ 64 → c ≡ t % 2 ^ k → x ≡ extended k w c → Solves 64 (λ v. (v ≡ c) × (x ≡ t)) r → Solves k (λ v. extended k w v ≡ t) r

@@ -1,7 +1,7 @@
 -- Laws of spots: what the arms of a match on the kind know, and what an arm's set comes to at the spot.
-use Rattle.std.proofs.Common.{◌≡◌, ℕ, zero, suc, ◌+◌, ◌-◌, ◌%◌, ◌^◌, ◌<◌, ◌≤◌, Bool, true, false, T, sym, refl, ap, ◌∙◌, subst, le_trans, le_of_eq, le_refl, le_of_lt, mod-lt, mod-eq_of_lt, arith, pow_pos}
+use Rattle.std.specs.Prelude.{Option}
+use Rattle.std.proofs.Common.{◌≡◌, ℕ, zero, suc, ◌+◌, ◌-◌, ◌%◌, ◌^◌, ◌<◌, ◌≤◌, true, false, T, sym, refl, ap, ◌∙◌, subst, le_of_eq, le_refl, mod-lt, mod-eq_of_lt, arith, pow_pos}
 use native.Mathlib.Nat.{add-mod-mod, add-mod_right}
-use Rattle.words.specs.declared.found.Found.{Found}
 use Rattle.words.specs.Agree.{Agrees}
 use Rattle.words.specs.laws.Agree.{agrees_lt}
 use Rattle.words.specs.Pick.{Picked}
@@ -19,21 +19,14 @@ use Rattle.boxes.specs.declared.Set.{Set}
 use Rattle.picking.specs.Spot.{at, put, positions, value, held_to_pairs, Admitted, Reaches, Slot, Asked}
 use Rattle.picking.specs.laws.Positions.{at_put_same, value_used, two_of, two_by_two, other_of}
 use Rattle.picking.specs.laws.Fair.{slot_lt, rule_at, count_at, slot_at, place}
-use Rattle.boxes.specs.inner.Boxes.{Solves, Chosen, Every, SomeOf, Some, SomeAgreeing}
+use Rattle.boxes.specs.inner.Boxes.{Solves, Chosen, Every, SomeOf, SomeWord, SomeAgreeing}
+use Rattle.picking.specs.declared.picks.Values.{Values}
+use Rattle.picking.specs.declared.picks.Values.TheVariants.{Inverse as InverseOnes, Consistent as ConsistentOnes}
 use Rattle.picking.specs.inner.Asks.{Short, joint, side_of, Joined, Meets, Wanted}
 use Rattle.picking.proofs.ArithmeticLaws.{sum_comm}
 use Rattle.boxes.specs.laws.Solves.{solves_by, solves_all}
 
 -- ---- by position
-pub at_rest : (x : Three) (i : ℕ) → (i ≡ 0 → ⊥) → (i ≡ 1 → ⊥) → x.c ≡ at x i
-at_rest x zero f g = absurd (f refl)
-at_rest x (suc zero) f g = absurd (g refl)
-at_rest x (suc (suc i)) f g = refl
-
-pub other_rest : (x : Three) (i : ℕ) → (i ≡ 0 → ⊥) → x.a ≡ at x (1 - i)
-other_rest x zero f = absurd (f refl)
-other_rest x (suc zero) f = refl
-other_rest x (suc (suc i)) f = let e : 1 - suc (suc i) ≡ 0 = omega arith in rw e
 
 joint_at : (i v s : ℕ) → i < 2 → at (joint i v s) (1 - i) ≡ s
 joint_at i v s h = two_of (λ i. at (joint i v s) (1 - i) ≡ s) i h refl refl
@@ -92,17 +85,9 @@ joined_at {S} {i} {t} A key =
       fits = rw e A.target;
     }
 
--- extract
-pub extract_at : {S : Spot} {i t : ℕ} → Asked S i t → S.kind ≡ 13 → (1 ≤ S.width) × (S.low + S.width ≤ 64) × (t < 2 ^ S.width)
-extract_at A key = (A.fair.some, le_trans (rule_at A.fair key) (slot_at A.fair key 0 (omega arith)).wide, A.target)
-
 -- division
 pub short_at : {S : Spot} {i t : ℕ} → Asked S i t → S.kind ≡ 17 → Short S.width t
 short_at A key = record { some = A.fair.some; short = (rule_at A.fair key).2; fits = A.target }
-
--- sign extension
-pub sext_at : {S : Spot} {i t : ℕ} → Asked S i t → S.kind ≡ 16 → (1 ≤ S.widths.a) × (S.widths.a ≤ S.width) × (S.width ≤ 64) × (t < 2 ^ S.width)
-sext_at A key = ((slot_at A.fair key 0 (omega arith)).some, le_of_lt (rule_at A.fair key), A.fair.wide, A.target)
 
 side_at : (S : Spot) (i : ℕ) → i < 2 → side_of i S.widths.a S.widths.b ≡ at S.widths i
 side_at S i h = two_of (λ i. side_of i S.widths.a S.widths.b ≡ at S.widths i) i h refl refl
@@ -171,7 +156,7 @@ module _ {S : Spot} {i t m : ℕ} (A : Asked S i t) (key : S.kind ≡ m) where
 
     -- any other kind: what has the width
     free_reach : {u k : ℕ} {r : Set} → held_to_pairs m ≡ false → at S.widths (1 - i) ≡ k → at S.widths i ≤ u
-        → Solves u (λ v. Some k (λ s. op_at (joint i v s) ≡ t)) r → Solves (at S.widths i) (λ v. Reaches S t i v) r
+        → Solves u (λ v. SomeWord k (λ s. op_at (joint i v s) ≡ t)) r → Solves (at S.widths i) (λ v. Reaches S t i v) r
     free_reach free e = reach_two (λ s l. record { fits = rw e l; agrees = λ q. absurd (subst T (sym q ∙ ap held_to_pairs key ∙ free) tt) }) (λ s g. rw e at g.fits)
 
 -- the same by width: sets of 64 bits, operands of the node's width, the two sides of a concat
@@ -184,14 +169,11 @@ module _ {S : Spot} {i t m : ℕ} (A : Asked S i t) (key : S.kind ≡ m) where
     pub both_arm : {y : ℕ} {r : Set} → y ≡ at S.current (1 - i) → Solves S.width (λ v. op_at A key (joint i v y) ≡ t) r → Solves (at S.widths i) (λ v. value S (put S.current i v) ≡ t) r
     both_arm = arm_two A key (both_two A key both) (both_wide A key both)
 
-    pub both_reach : {r : Set} → held_to_pairs m ≡ false → Solves S.width (λ v. Some S.width (λ s. op_at A key (joint i v s) ≡ t)) r → Solves (at S.widths i) (λ v. Reaches S t i v) r
+    pub both_reach : {r : Set} → held_to_pairs m ≡ false → Solves S.width (λ v. SomeWord S.width (λ s. op_at A key (joint i v s) ≡ t)) r → Solves (at S.widths i) (λ v. Reaches S t i v) r
     both_reach free = free_reach A key (both_two A key both) free (both_other A key both) (both_wide A key both)
 
   pub equal_lt : {y : ℕ} → shape_of m ≡ row 2 2 Equal → y ≡ at S.current (1 - i) → y < 2 ^ S.widths.a
   equal_lt equal e = rw (equal_width A key equal (1 - i) (omega arith)) at (other_lt A key (rw equal (omega arith)) e)
-
-  pub equal_pair : {l h : ℕ} → shape_of m ≡ row 2 2 Equal → l ≡ at S.los (1 - i) → h ≡ at S.his (1 - i) → Ternary S.widths.a (pair l h)
-  equal_pair equal el eh = rw (equal_width A key equal (1 - i) (omega arith)) at (other_pair A key (rw equal (omega arith)) el eh)
 
   pub equal_arm : {y : ℕ} {r : Set} → shape_of m ≡ row 2 2 Equal → y ≡ at S.current (1 - i) → Solves S.widths.a (λ v. op_at A key (joint i v y) ≡ t) r
       → Solves (at S.widths i) (λ v. value S (put S.current i v) ≡ t) r
@@ -257,7 +239,7 @@ reach_one {S} {i} {t} A one s =
 pub reach_add : {S : Spot} {i t : ℕ} {r : Set} (A : Asked S i t) (key : S.kind ≡ 5) → Solves 64 Every r → Solves (at S.widths i) (λ v. Reaches S t i v) r
 reach_add {S} {i} {t} A key s = both_reach A key refl refl (alike_some (sum_comm S.width) i (solves_all A.fair.wide s other))
   where
-    other : (v : ℕ) → v < 2 ^ S.width → Some S.width (λ s. (v + s) % 2 ^ S.width ≡ t)
+    other : (v : ℕ) → v < 2 ^ S.width → SomeWord S.width (λ s. (v + s) % 2 ^ S.width ≡ t)
     other v l =
         let w = S.width in
         let e : v + (t + (2 ^ w - v)) ≡ t + 2 ^ w = omega arith in
@@ -268,7 +250,7 @@ reach_add {S} {i} {t} A key s = both_reach A key refl refl (alike_some (sum_comm
         }
 
 -- ---- the pick from what a set holds and a pair allows
-picked_at : {S : Spot} {i t : ℕ} {set : Set} {P Q : ℕ → Type 0} (p : ℕ) (r : Found) → Asked S i t → Solves (at S.widths i) P set
+picked_at : {S : Spot} {i t : ℕ} {set : Set} {P Q : ℕ → Type 0} (p : ℕ) (r : Option ℕ) → Asked S i t → Solves (at S.widths i) P set
     → ((v : ℕ) → Agrees (at S.los i) (at S.his i) v → P v → Q v) → ((v : ℕ) → Q v → Agrees (at S.los i) (at S.his i) v × P v)
     → Picked (Chosen set (at S.los i) (at S.his i)) p r → Picked Q p r
 picked_at {S} {i} {t} {set} {P} {Q} p r A s to back =
@@ -278,7 +260,7 @@ picked_at {S} {i} {t} {set} {P} {Q} p r A s to back =
     short : (v : ℕ) → Agrees (at S.los i) (at S.his i) v → v < 2 ^ at S.widths i
     short v g = agrees_lt (at S.widths i) (A.fair.slots i A.position).under g
 
-module _ {S : Spot} {i t : ℕ} {set : Set} (p : ℕ) (r : Found) (A : Asked S i t) where
-  pub wanted_picked : (b : Bool) → Solves (at S.widths i) (Meets b S t i) set → Picked (Chosen set (at S.los i) (at S.his i)) p r → Picked (Wanted b S t i) p r
-  wanted_picked true s = picked_at p r A s (λ v g m. record { agrees = g; gives = m }) (λ v m. (m.agrees, m.gives))
-  wanted_picked false s = picked_at p r A s (λ v g m. record { agrees = g; reaches = m }) (λ v m. (m.agrees, m.reaches))
+module _ {S : Spot} {i t : ℕ} {set : Set} (p : ℕ) (r : Option ℕ) (A : Asked S i t) where
+  pub wanted_picked : (b : Values) → Solves (at S.widths i) (Meets b S t i) set → Picked (Chosen set (at S.los i) (at S.his i)) p r → Picked (Wanted b S t i) p r
+  wanted_picked InverseOnes s = picked_at p r A s (λ v g m. record { agrees = g; gives = m }) (λ v m. (m.agrees, m.gives))
+  wanted_picked ConsistentOnes s = picked_at p r A s (λ v g m. record { agrees = g; reaches = m }) (λ v m. (m.agrees, m.reaches))

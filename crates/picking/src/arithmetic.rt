@@ -1,6 +1,6 @@
 // Add and mul: the values of an operand that give t, and those that do so with some value of the other.
 ghost use Rattle.std.specs.Prelude.{◌≡◌, ◌+◌, ◌*◌, ◌%◌, ◌^◌, ◌<◌, true};
-ghost use Rattle.boxes.specs.inner.Boxes.{Solves, Some};
+ghost use Rattle.boxes.specs.inner.Boxes.{Solves, SomeWord};
 ghost use Rattle.picking.specs.inner.Asks.{Sized};
 
 use crate::basic;
@@ -11,7 +11,7 @@ pub(crate) fn difference(w: u32, s: u64, t: u64) -> u64
     requires { Sized w t }
     ensures { Solves w (λ v. (v + s) % 2 ^ w ≡ t) (Set.Only result true) }
 {
-    words::cut(std::num::wrapping_sub_u64(t, s), w)
+    words::cut(t.wrapping_sub(s), w)
 }
 
 pub(crate) fn inverse_add(w: u32, s: u64, t: u64) -> Set
@@ -35,14 +35,14 @@ pub(crate) fn inverse_mul(w: u32, s: u64, t: u64) -> Set
     if words::cut(t, k) != 0 {
         return Set::Empty;
     }
-    let x = words::wrapping_mul(t >> k, words::odd_inverse(s >> k));
+    let x = (t >> k).wrapping_mul(words::odd_inverse(s >> k));
     basic::ending(w - k, words::cut(x, w - k))
 }
 
 // A factor of t has a set bit no higher than t's lowest.
 pub(crate) fn consistent_mul(w: u32, t: u64) -> Set
     requires { Sized w t }
-    ensures { Solves w (λ v. Some w (λ s. v * s % 2 ^ w ≡ t)) result }
+    ensures { Solves w (λ v. SomeWord w (λ s. v * s % 2 ^ w ≡ t)) result }
 {
     if t == 0 {
         return basic::all();

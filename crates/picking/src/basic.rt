@@ -1,4 +1,4 @@
-// The sets that several operators answer, each named by what is in it.
+// The sets that several operators answer, each named by what is in it. (A few are one box each: they differ in what they promise.)
 ghost use Rattle.std.specs.Prelude.{◌≡◌, ◌%◌, ◌^◌, ◌<◌, ◌≤◌, true, ◌⊎◌, ◌≢◌};
 ghost use Rattle.words.specs.Agree.{Agrees};
 ghost use Rattle.boxes.specs.inner.Boxes.{Solves, Every};
@@ -85,6 +85,7 @@ pub(crate) fn ends(a: u64, b: u64) -> Set
 }
 
 // The values that agree with lo, hi.
+// (Two words and no `Ternary`: it asks nothing of them.)
 pub(crate) fn agreeing(lo: u64, hi: u64) -> Set
     ensures { Solves 64 (Agrees lo hi) result }
 {

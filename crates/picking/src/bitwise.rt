@@ -1,12 +1,12 @@
 // Not, and, xor: the values of an operand that give t, and those that do so with some value of the other
-// that agrees with its pair l, h.
+// that agrees with its pair.
 ghost use Rattle.std.specs.Prelude.{◌≡◌, ◌-◌, ◌^◌, true, bit_and, bit_xor};
-ghost use Rattle.words.specs.Agree.{Within};
 ghost use Rattle.boxes.specs.inner.Boxes.{Solves, SomeAgreeing};
 ghost use Rattle.picking.specs.inner.Asks.{Sized};
 
 use crate::basic;
 use boxes::Set;
+use words::Ternary;
 
 pub(crate) fn inverse_not(w: u32, t: u64) -> Set
     requires { Sized w t }
@@ -19,19 +19,18 @@ pub(crate) fn inverse_not(w: u32, t: u64) -> Set
 pub(crate) fn inverse_and(s: u64, t: u64) -> Set
     ensures { Solves 64 (λ v. bit_and v s ≡ t) result }
 {
-    consistent_and(s, s, t)
+    consistent_and(Ternary { lo: s, hi: s }, t)
 }
 
 // Every bit of t has to be one that the other can have; then v has the bits of t and, where the other need not have a bit, any
 // others.
-pub(crate) fn consistent_and(l: u64, h: u64, t: u64) -> Set
-    requires { Within l h }
-    ensures { Solves 64 (λ v. SomeAgreeing l h (λ s. bit_and v s ≡ t)) result }
+pub(crate) fn consistent_and(pair: Ternary, t: u64) -> Set
+    ensures { Solves 64 (λ v. SomeAgreeing pair.lo pair.hi (λ s. bit_and v s ≡ t)) result }
 {
-    if t & h != t {
+    if t & pair.hi != t {
         return Set::Empty;
     }
-    basic::agreeing(t, t | !l)
+    basic::agreeing(t, t | !pair.lo)
 }
 
 // The one value that gives t with s.
@@ -48,11 +47,10 @@ pub(crate) fn inverse_xor(s: u64, t: u64) -> Set
 }
 
 // The xor of t with the other's pair: free where the pair is.
-pub(crate) fn consistent_xor(l: u64, h: u64, t: u64) -> Set
-    requires { Within l h }
-    ensures { Solves 64 (λ v. SomeAgreeing l h (λ s. bit_xor v s ≡ t)) result }
+pub(crate) fn consistent_xor(pair: Ternary, t: u64) -> Set
+    ensures { Solves 64 (λ v. SomeAgreeing pair.lo pair.hi (λ s. bit_xor v s ≡ t)) result }
 {
-    let a = t ^ l;
-    let b = t ^ h;
+    let a = t ^ pair.lo;
+    let b = t ^ pair.hi;
     basic::agreeing(a & b, a | b)
 }

@@ -41,6 +41,7 @@ pub(crate) fn inverse_branch(i: u32, now: Three, t: u64) -> Set
     basic::all_if(at(now, 3 - i), t)
 }
 
+// (It and consistent_if ask only which position is meant; each promises its own equation.)
 pub(crate) fn inverse_if(i: u32, now: Three, t: u64) -> Set
     requires { i < 3 }
     ensures { Solves 64 (λ v. choose (put now i v).a (put now i v).b (put now i v).c ≡ t) result }
@@ -52,6 +53,7 @@ pub(crate) fn inverse_if(i: u32, now: Three, t: u64) -> Set
 }
 
 // Some other values that agree with their pairs do: what branch b can be for a condition other than 0, what branch c can be for 0.
+// (los and his, here and below, as a spot has them and `HadIf` takes them.)
 fn consistent_condition(los: Three, his: Three, t: u64) -> Set
     ensures { Solves 64 (λ v. HadIf los his t 0 v) result }
 {
@@ -70,7 +72,7 @@ fn consistent_branch(i: u32, los: Three, his: Three, t: u64) -> Set
     requires { (1 ≤ i) × (i < 3) }
     ensures { Solves 64 (λ v. HadIf los his t i v) result }
 {
-    let way = (2 - i) as u64;
+    let way = u64::from(2 - i);
     let j = 3 - i;
     let l = at(los, j);
     let h = at(his, j);

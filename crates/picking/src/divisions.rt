@@ -2,19 +2,12 @@
 // 16 bits, so that no product leaves 32.
 ghost use Rattle.std.specs.Prelude.{◌≡◌, ◌-◌, ◌^◌, ◌<◌, ◌≤◌};
 ghost use Rattle.operators.specs.Meaning.{quotient};
-ghost use Rattle.boxes.specs.inner.Boxes.{Solves, Some};
+ghost use Rattle.boxes.specs.inner.Boxes.{Solves, SomeWord};
 ghost use Rattle.picking.specs.inner.Asks.{Short, joint};
 
 use crate::basic;
 use boxes::{Set, Union};
-
-// The greatest value of w bits.
-fn greatest(w: u32) -> u64
-    requires { w ≤ 64 }
-    ensures { result ≡ 2 ^ w - 1 }
-{
-    words::cut(u64::MAX, w)
-}
+use operators::ones;
 
 // From t times s on as many as s is.
 fn inverse_dividend(w: u32, s: u64, t: u64) -> Set
@@ -22,7 +15,7 @@ fn inverse_dividend(w: u32, s: u64, t: u64) -> Set
     ensures { Solves w (λ v. quotient w v s ≡ t) result }
 {
     if s == 0 {
-        return basic::all_if(greatest(w), t);
+        return basic::all_if(ones(w), t);
     }
     let a = t * s;
     basic::range(a, a + (s - 1))
@@ -36,7 +29,7 @@ fn inverse_divisor(w: u32, x: u64, t: u64) -> Set
     if t == 0 {
         return basic::above(x);
     }
-    if t == greatest(w) {
+    if t == ones(w) {
         return basic::range(0, x / t);
     }
     basic::range(x / (t + 1) + 1, x / t)
@@ -55,9 +48,9 @@ pub(crate) fn inverse_udiv(i: u32, w: u32, s: u64, t: u64) -> Set
 // Everything for all ones, by 0; all but the greatest for 0; else what some divisor takes to t.
 fn consistent_dividend(w: u32, t: u64) -> Set
     requires { Short w t }
-    ensures { Solves w (λ v. Some w (λ s. quotient w v s ≡ t)) result }
+    ensures { Solves w (λ v. SomeWord w (λ s. quotient w v s ≡ t)) result }
 {
-    let m = greatest(w);
+    let m = ones(w);
     if t == m {
         return basic::all();
     }
@@ -70,9 +63,9 @@ fn consistent_dividend(w: u32, t: u64) -> Set
 // Divisors whose product with t is of w bits; 0 for all ones alone.
 fn consistent_divisor(w: u32, t: u64) -> Set
     requires { Short w t }
-    ensures { Solves w (λ v. Some w (λ s. quotient w s v ≡ t)) result }
+    ensures { Solves w (λ v. SomeWord w (λ s. quotient w s v ≡ t)) result }
 {
-    let m = greatest(w);
+    let m = ones(w);
     if t == m {
         return basic::range(0, 1);
     }
@@ -84,7 +77,7 @@ fn consistent_divisor(w: u32, t: u64) -> Set
 
 pub(crate) fn consistent_udiv(i: u32, w: u32, t: u64) -> Set
     requires { (i < 2) × Short w t }
-    ensures { Solves w (λ v. Some w (λ s. quotient w (joint i v s).a (joint i v s).b ≡ t)) result }
+    ensures { Solves w (λ v. SomeWord w (λ s. quotient w (joint i v s).a (joint i v s).b ≡ t)) result }
 {
     if i == 0 {
         return consistent_dividend(w, t);

@@ -5,6 +5,7 @@ ghost use Rattle.picking.specs.inner.Asks.{joint, part_of, side_of, Joined};
 
 use crate::basic;
 use boxes::Set;
+use words::Ternary;
 
 // What a or b is, where a above the k bits of b is t.
 fn part(i: u32, k: u32, t: u64) -> u64
@@ -21,12 +22,15 @@ pub(crate) fn inverse_concat(i: u32, wa: u32, wb: u32, s: u64, t: u64) -> Set
     basic::only_if(part(i, wb, t), part(1 - i, wb, t), s)
 }
 
-// The rest of t has to agree with the other's pair l, h.
-pub(crate) fn consistent_concat(i: u32, wa: u32, wb: u32, l: u64, h: u64, t: u64) -> Set
-    requires { Joined i wa wb t × (h < 2 ^ side_of (1 - i) wa wb) }
-    ensures { Solves (side_of i wa wb) (λ v. SomeAgreeing l h (λ s. (joint i v s).a * 2 ^ wb + (joint i v s).b ≡ t)) result }
+// The rest of t has to agree with the other's pair.
+pub(crate) fn consistent_concat(i: u32, wa: u32, wb: u32, pair: Ternary, t: u64) -> Set
+    requires { Joined i wa wb t × (pair.hi < 2 ^ side_of (1 - i) wa wb) }
+    ensures { Solves (side_of i wa wb) (λ v. SomeAgreeing pair.lo pair.hi (λ s. (joint i v s).a * 2 ^ wb + (joint i v s).b ≡ t)) result }
 {
-    basic::only_where(part(i, wb, t), words::agrees(part(1 - i, wb, t), l, h))
+    basic::only_where(
+        part(i, wb, t),
+        words::agrees(part(1 - i, wb, t), pair.lo, pair.hi),
+    )
 }
 
 // The w bits from bit k on are t, the others are free.

@@ -1,40 +1,57 @@
 // The inverse and the consistent set of a node's position, without the operand's pair: by kind. A contract settles what is in a
-// set and not how it is cut into boxes, so functions that answer sets stay inside this crate.
-ghost use Rattle.std.specs.Prelude.{◌≡◌};
-ghost use Rattle.picking.specs.Spot.{at as standing, put, value, Reaches, Asked};
+// set and not how it is cut into boxes, so functions that answer sets stay inside this crate. (Those of shl, ashr and udiv ask only
+// which of two positions is meant; each promises its own equation, so one function for all would take that as an argument and be
+// longer than they are.)
+// (A width and a target are two parameters in these files, with one short clause, `Sized`, `Word` or `Short`: each asks no more than
+// its operator needs, which one type for all would not. A position is a number, and so is a bit: an enum would be made of it at each call.)
+ghost use Rattle.std.specs.Prelude.{◌≡◌, ◌-◌};
+ghost use Rattle.picking.specs.Spot.{at as standing, put, value, positions, Reaches, Fair, Asked};
 ghost use Rattle.boxes.specs.inner.Boxes.{Solves};
 
 use crate::spot::{Spot, other};
 use crate::{arithmetic, basic, bitwise, choice, comparisons, divisions, joining, shifts, signed};
 use boxes::Set;
+use operators::{KINDS, kind};
+use words::Ternary;
 
 // The values of position i that give t with the others at their current values.
 pub(crate) fn inverse_set(s: Spot, i: u32, t: u64) -> Set
     requires { Asked s i t }
     ensures { Solves (standing s.widths i) (λ v. value s (put s.current i v) ≡ t) result }
 {
-    let kind = s.kind;
     let w = s.width;
     let now = s.current;
     let y = other(now, i);
-    match kind {
-        2 => bitwise::inverse_not(w, t),
-        3 => bitwise::inverse_and(y, t),
-        4 => bitwise::inverse_xor(y, t),
-        5 => arithmetic::inverse_add(w, y, t),
-        6 => arithmetic::inverse_mul(w, y, t),
-        7 => shifts::inverse_shl(i, w, y, t),
-        8 => shifts::inverse_lshr(i, y, t),
-        9 => comparisons::inverse_eq(y, t),
-        10 => comparisons::inverse_below(i, y, t),
-        11 => choice::inverse_if(i, now, t),
-        12 => joining::inverse_concat(i, s.widths.a as u32, s.widths.b as u32, y, t),
-        13 => joining::inverse_extract(w, s.low, t),
-        14 => signed::inverse_slt(i, s.widths.a as u32, y, t),
-        15 => signed::inverse_ashr(i, w, y, t),
-        16 => signed::inverse_sext(s.widths.a as u32, w, t),
-        17 => divisions::inverse_udiv(i, w, y, t),
-        0..=1 | 18..=255 => Set::Empty,
+    match s.kind {
+        kind::NOT => bitwise::inverse_not(w, t),
+        kind::AND => bitwise::inverse_and(y, t),
+        kind::XOR => bitwise::inverse_xor(y, t),
+        kind::ADD => arithmetic::inverse_add(w, y, t),
+        kind::MUL => arithmetic::inverse_mul(w, y, t),
+        kind::SHL => shifts::inverse_shl(i, w, y, t),
+        kind::LSHR => shifts::inverse_lshr(i, y, t),
+        kind::EQ => comparisons::inverse_eq(y, t),
+        kind::BELOW => comparisons::inverse_below(i, y, t),
+        kind::IF => choice::inverse_if(i, now, t),
+        kind::CONCAT => joining::inverse_concat(i, s.widths.a as u32, s.widths.b as u32, y, t),
+        kind::EXTRACT => joining::inverse_extract(w, s.low, t),
+        kind::SLT => signed::inverse_slt(i, s.widths.a as u32, y, t),
+        kind::ASHR => signed::inverse_ashr(i, w, y, t),
+        kind::SEXT => signed::inverse_sext(s.widths.a as u32, w, t),
+        kind::UDIV => divisions::inverse_udiv(i, w, y, t),
+        kind::VARIABLE..=kind::CONSTANT | KINDS..=u8::MAX => Set::Empty,
+    }
+}
+
+// The pair of the other of two positions.
+fn other_pair(s: Spot, i: u32) -> Ternary
+    requires { Fair s × (positions s ≡ 2) }
+    ensures lo { result.lo ≡ standing s.los (1 - i) }
+    ensures hi { result.hi ≡ standing s.his (1 - i) }
+{
+    Ternary {
+        lo: other(s.los, i),
+        hi: other(s.his, i),
     }
 }
 
@@ -44,29 +61,30 @@ pub(crate) fn consistent_set(s: Spot, i: u32, t: u64) -> Set
     requires { Asked s i t }
     ensures { Solves (standing s.widths i) (λ v. Reaches s t i v) result }
 {
-    let kind = s.kind;
     let w = s.width;
-    let los = s.los;
-    let his = s.his;
-    let l = other(los, i);
-    let h = other(his, i);
-    match kind {
-        2 => bitwise::inverse_not(w, t),
-        3 => bitwise::consistent_and(l, h, t),
-        4 => bitwise::consistent_xor(l, h, t),
-        5 => basic::all(),
-        6 => arithmetic::consistent_mul(w, t),
-        7 => shifts::consistent_shl(i, w, t),
-        8 => shifts::consistent_lshr(i, w, t),
-        9 => comparisons::consistent_eq(l, h, t),
-        10 => comparisons::consistent_below(i, l, h, t),
-        11 => choice::consistent_if(i, los, his, t),
-        12 => joining::consistent_concat(i, s.widths.a as u32, s.widths.b as u32, l, h, t),
-        13 => joining::inverse_extract(w, s.low, t),
-        14 => signed::consistent_slt(i, s.widths.a as u32, l, h, t),
-        15 => signed::consistent_ashr(i, w, t),
-        16 => signed::inverse_sext(s.widths.a as u32, w, t),
-        17 => divisions::consistent_udiv(i, w, t),
-        0..=1 | 18..=255 => Set::Empty,
+    match s.kind {
+        kind::NOT => bitwise::inverse_not(w, t),
+        kind::AND => bitwise::consistent_and(other_pair(s, i), t),
+        kind::XOR => bitwise::consistent_xor(other_pair(s, i), t),
+        kind::ADD => basic::all(),
+        kind::MUL => arithmetic::consistent_mul(w, t),
+        kind::SHL => shifts::consistent_shl(i, w, t),
+        kind::LSHR => shifts::consistent_lshr(i, w, t),
+        kind::EQ => comparisons::consistent_eq(other_pair(s, i), t),
+        kind::BELOW => comparisons::consistent_below(i, other_pair(s, i), t),
+        kind::IF => choice::consistent_if(i, s.los, s.his, t),
+        kind::CONCAT => joining::consistent_concat(
+            i,
+            s.widths.a as u32,
+            s.widths.b as u32,
+            other_pair(s, i),
+            t,
+        ),
+        kind::EXTRACT => joining::inverse_extract(w, s.low, t),
+        kind::SLT => signed::consistent_slt(i, s.widths.a as u32, other_pair(s, i), t),
+        kind::ASHR => signed::consistent_ashr(i, w, t),
+        kind::SEXT => signed::inverse_sext(s.widths.a as u32, w, t),
+        kind::UDIV => divisions::consistent_udiv(i, w, t),
+        kind::VARIABLE..=kind::CONSTANT | KINDS..=u8::MAX => Set::Empty,
     }
 }

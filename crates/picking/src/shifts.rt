@@ -1,6 +1,6 @@
 // Shl and lshr: the values of the operand or of the amount that give t, and those that do so with some value of the other.
 ghost use Rattle.std.specs.Prelude.{◌≡◌, ◌*◌, ◌/◌, ◌%◌, ◌^◌, ◌<◌};
-ghost use Rattle.boxes.specs.inner.Boxes.{Solves, Some};
+ghost use Rattle.boxes.specs.inner.Boxes.{Solves, SomeWord};
 ghost use Rattle.picking.specs.inner.Asks.{Sized, joint};
 
 use crate::basic;
@@ -13,7 +13,7 @@ fn inverse_shl_operand(w: u32, s: u64, t: u64) -> Set
     requires { Sized w t }
     ensures { Solves w (λ v. v * 2 ^ s % 2 ^ w ≡ t) result }
 {
-    if s >= w as u64 {
+    if s >= u64::from(w) {
         return basic::all_if(0, t);
     }
     let k = s as u32;
@@ -33,14 +33,14 @@ fn inverse_shl_amount(w: u32, x: u64, t: u64) -> Set
     }
     let i = words::low_bit(x);
     if t == 0 {
-        return basic::range((w - i) as u64, u64::MAX);
+        return basic::range(u64::from(w - i), u64::MAX);
     }
     let j = words::low_bit(t);
     if j < i {
         return Set::Empty;
     }
     let k = j - i;
-    basic::only_if(k as u64, words::cut(x << k, w), t)
+    basic::only_if(u64::from(k), words::cut(x << k, w), t)
 }
 
 pub(crate) fn inverse_shl(i: u32, w: u32, s: u64, t: u64) -> Set
@@ -56,7 +56,7 @@ pub(crate) fn inverse_shl(i: u32, w: u32, s: u64, t: u64) -> Set
 // A shift is by no more than t has zeros at its end.
 pub(crate) fn consistent_shl(i: u32, w: u32, t: u64) -> Set
     requires { (i < 2) × Sized w t }
-    ensures { Solves w (λ v. Some w (λ s. (joint i v s).a * 2 ^ (joint i v s).b % 2 ^ w ≡ t)) result }
+    ensures { Solves w (λ v. SomeWord w (λ s. (joint i v s).a * 2 ^ (joint i v s).b % 2 ^ w ≡ t)) result }
 {
     if t == 0 {
         return basic::all();
@@ -65,7 +65,7 @@ pub(crate) fn consistent_shl(i: u32, w: u32, t: u64) -> Set
     if i == 0 {
         return Set::Many(Union::Several(Row::Left(t, w), n + 1));
     }
-    basic::range(0, n as u64)
+    basic::range(0, u64::from(n))
 }
 
 // ---- lshr
@@ -93,14 +93,14 @@ pub(crate) fn inverse_lshr_amount(x: u64, t: u64) -> Set
     }
     let i = words::top_bit(x);
     if t == 0 {
-        return basic::range((i + 1) as u64, u64::MAX);
+        return basic::range(u64::from(i + 1), u64::MAX);
     }
     let j = words::top_bit(t);
     if i < j {
         return Set::Empty;
     }
     let k = i - j;
-    basic::only_if(k as u64, x >> k, t)
+    basic::only_if(u64::from(k), x >> k, t)
 }
 
 pub(crate) fn inverse_lshr(i: u32, s: u64, t: u64) -> Set
@@ -116,7 +116,7 @@ pub(crate) fn inverse_lshr(i: u32, s: u64, t: u64) -> Set
 // A shift is by no more than t has zeros at its top.
 pub(crate) fn consistent_lshr(i: u32, w: u32, t: u64) -> Set
     requires { (i < 2) × Sized w t }
-    ensures { Solves w (λ v. Some w (λ s. (joint i v s).a / 2 ^ (joint i v s).b ≡ t)) result }
+    ensures { Solves w (λ v. SomeWord w (λ s. (joint i v s).a / 2 ^ (joint i v s).b ≡ t)) result }
 {
     if t == 0 {
         return basic::all();
@@ -125,5 +125,5 @@ pub(crate) fn consistent_lshr(i: u32, w: u32, t: u64) -> Set
     if i == 0 {
         return Set::Many(Union::Several(Row::Right(t), n));
     }
-    basic::range(0, (n - 1) as u64)
+    basic::range(0, u64::from(n - 1))
 }

@@ -2,15 +2,14 @@
 // those that do so with some value of the other.
 ghost use Rattle.std.specs.Prelude.{◌≡◌, ◌-◌, ◌^◌, ◌<◌, ◌≤◌, min, ◌≢◌};
 ghost use Rattle.operators.specs.Meaning.{flag, signed_less, signed_shift, extended};
-ghost use Rattle.fixed.specs.Fixed.{pair};
-ghost use Rattle.fixed.specs.inner.Pairs.{Ternary};
 ghost use Rattle.operators.specs.laws.Signed.{turned};
-ghost use Rattle.boxes.specs.inner.Boxes.{Solves, Some, SomeAgreeing};
+ghost use Rattle.boxes.specs.inner.Boxes.{Solves, SomeWord, SomeAgreeing};
 ghost use Rattle.picking.specs.inner.Asks.{Word, Folded, joint};
 
 use crate::basic;
 use crate::shifts::inverse_lshr_amount;
 use boxes::{Row, Set, Union, mirror, shifted};
+use words::Ternary;
 
 // ---- below, in the signed order: that of the words with their signs turned over
 
@@ -85,15 +84,15 @@ pub(crate) fn inverse_slt(i: u32, w: u32, s: u64, t: u64) -> Set
 }
 
 // The other's greatest value serves best where v has to be below it or at most it, else its least. The sign of the least is that of
-// h, of the greatest that of l.
-pub(crate) fn consistent_slt(i: u32, w: u32, l: u64, h: u64, t: u64) -> Set
-    requires { (i < 2) × (1 ≤ w) × (w ≤ 64) × (t < 2) × Ternary w (pair l h) }
-    ensures { Solves w (λ v. SomeAgreeing l h (λ s. flag (signed_less w (joint i v s).a (joint i v s).b) ≡ t)) result }
+// hi, of the greatest that of lo.
+pub(crate) fn consistent_slt(i: u32, w: u32, pair: Ternary, t: u64) -> Set
+    requires { (i < 2) × Word w pair.hi × (t < 2) }
+    ensures { Solves w (λ v. SomeAgreeing pair.lo pair.hi (λ s. flag (signed_less w (joint i v s).a (joint i v s).b) ≡ t)) result }
 {
-    if i as u64 == t {
-        return inverse_slt(i, w, fixed::sign_over(h, l, w), t);
+    if u64::from(i) == t {
+        return inverse_slt(i, w, fixed::sign_over(pair.hi, pair.lo, w), t);
     }
-    inverse_slt(i, w, fixed::sign_over(l, h, w), t)
+    inverse_slt(i, w, fixed::sign_over(pair.lo, pair.hi, w), t)
 }
 
 // ---- arithmetic shift: the sign stays, so a target with its sign set goes by complements
@@ -113,10 +112,7 @@ fn fold(w: u32, t: u64) -> u64
 fn at_most(s: u64, n: u32) -> u32
     ensures { result ≡ min s n }
 {
-    if s < n as u64 {
-        return s as u32;
-    }
-    n
+    s.min(u64::from(n)) as u32
 }
 
 // A shift by w - 1 or more leaves the sign alone; by less, t and any bits below, or the complements of those.
@@ -167,7 +163,7 @@ pub(crate) fn inverse_ashr(i: u32, w: u32, s: u64, t: u64) -> Set
 // Where t has nothing but its sign: all of the same sign.
 fn all_signed(w: u32, t: u64) -> Set
     requires { Word w t × ((t ≢ 0) → t ≡ 2 ^ w - 1) }
-    ensures { Solves w (λ v. Some w (λ s. signed_shift w v s ≡ t)) result }
+    ensures { Solves w (λ v. SomeWord w (λ s. signed_shift w v s ≡ t)) result }
 {
     let h = operators::half(w);
     if t == 0 {
@@ -179,7 +175,7 @@ fn all_signed(w: u32, t: u64) -> Set
 // All of t's sign, if nothing but the sign is left; else what shifts take to t that keep its highest bit below the sign.
 fn consistent_ashr_operand(w: u32, t: u64) -> Set
     requires { Word w t }
-    ensures { Solves w (λ v. Some w (λ s. signed_shift w v s ≡ t)) result }
+    ensures { Solves w (λ v. SomeWord w (λ s. signed_shift w v s ≡ t)) result }
 {
     let u = fold(w, t);
     if u == 0 {
@@ -194,18 +190,18 @@ fn consistent_ashr_operand(w: u32, t: u64) -> Set
 
 fn consistent_ashr_amount(w: u32, t: u64) -> Set
     requires { Word w t }
-    ensures { Solves w (λ v. Some w (λ s. signed_shift w s v ≡ t)) result }
+    ensures { Solves w (λ v. SomeWord w (λ s. signed_shift w s v ≡ t)) result }
 {
     let u = fold(w, t);
     if u == 0 {
         return basic::all();
     }
-    basic::range(0, (w - 1 - words::top_bit(u) - 1) as u64)
+    basic::range(0, u64::from(w - 1 - words::top_bit(u) - 1))
 }
 
 pub(crate) fn consistent_ashr(i: u32, w: u32, t: u64) -> Set
     requires { (i < 2) × Word w t }
-    ensures { Solves w (λ v. Some w (λ s. signed_shift w (joint i v s).a (joint i v s).b ≡ t)) result }
+    ensures { Solves w (λ v. SomeWord w (λ s. signed_shift w (joint i v s).a (joint i v s).b ≡ t)) result }
 {
     if i == 0 {
         return consistent_ashr_operand(w, t);

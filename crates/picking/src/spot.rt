@@ -3,7 +3,7 @@ ghost use Rattle.std.specs.Prelude.{◌≡◌, ◌-◌};
 ghost use Rattle.picking.specs.Spot.{at as standing};
 
 // What stands at the positions a, b and c of a node.
-#[derive(Clone, Copy)]
+#[derive(Clone, Copy, Debug, PartialEq, Eq)]
 pub struct Three {
     pub a: u64,
     pub b: u64,
@@ -11,8 +11,9 @@ pub struct Three {
 }
 
 // A node's kind, width and lowest bit (extract's field b), and of each position the operand's width, its pair and its
-// current value.
-#[derive(Clone, Copy)]
+// current value. (What is known of one stands in one short clause, `Asked` or `Fair`, at each function: in a type round it the
+// position and the target would still ask for their clauses, two in place of the one.)
+#[derive(Clone, Copy, Debug, PartialEq, Eq)]
 pub struct Spot {
     pub kind: u8,
     pub width: u32,

@@ -1,4 +1,5 @@
 -- Laws that only this crate's proofs cite.
-pub mod Parts
 pub mod Passed
 pub mod Shifted
+pub mod Stops
+pub mod View

@@ -12,10 +12,8 @@ use Rattle.words.specs.inner.Decides.{Decides}
 use Rattle.words.specs.inner.Marks.{Marked, with_mark, Added}
 use Rattle.words.specs.laws.Decides.{decides_unique, decides_same, decides_eq}
 use Rattle.words.specs.laws.Marks.{unmarked, mark_more}
-use Rattle.problem.specs.declared.Checked.{Checked}
-use Rattle.problem.specs.declared.Checked.TheVariants.{Accepted}
 use Rattle.problem.specs.Layout.{root_at}
-use Rattle.problem.specs.Refusals.{refusal, ◌then◌, root_before, repeat_lines, repeat_fault}
+use Rattle.problem.specs.Refusals.{Checked, Accepted, refusal, ◌then◌, root_before, repeat_lines, repeat_fault}
 use Rattle.problem.specs.laws.First.{line_at_start, line_more}
 
 -- the ids of the roots before j are marked, and no other

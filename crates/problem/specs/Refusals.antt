@@ -1,12 +1,18 @@
 -- Document 01, "Refusal numbers, in order of checking", 1 to 13, and of document 02 20 (R-11), among the tests of a node, and 16 (R-5), after
 -- all: the lines of the table as lists, and the first that is given.
-use Rattle.std.specs.Prelude.{ℕ, zero, suc, ◌^◌, List, [], ◌∷◌, Bool, false, cond, not, ◌&&◌, ◌||◌, length, get_or, ltb, leb, eqb}
+use Rattle.std.specs.Prelude.{ℕ, zero, suc, ◌^◌, List, [], ◌∷◌, Bool, Result, Ok, Err as Refused, false, cond, not, ◌&&◌, ◌||◌, length, get_or, ltb, leb, eqb}
 use Rattle.std.specs.Int.Bits.{bit_and}
 use Rattle.operators.specs.Table.{kind_count, shape_of, rule_holds}
-use Rattle.problem.specs.declared.Checked.{Checked}
-use Rattle.problem.specs.declared.Checked.TheVariants.{Accepted, Refused}
+use Rattle.problem.specs.declared.Refusal.{Refusal}
 use Rattle.problem.specs.declared.layout.Node.{Node}
 use Rattle.problem.specs.Layout.{version, node_count, root_count, node_at, width_at, root_at, total_length}
+
+-- the answer of a test, which accepts or refuses
+abbrev pub Checked : Type 0
+Checked = Result Unit Refusal
+
+abbrev pub Accepted : Checked
+Accepted = Ok tt
 
 -- the answer that refuses, with a number and a place
 abbrev pub refusal : ℕ → ℕ → Checked
@@ -14,11 +20,11 @@ refusal n p = Refused (record { number = n; place = p })
 
 -- the paper's number and place of an answer; both are 0 where the problem is accepted
 abbrev pub number_of : Checked → ℕ
-number_of Accepted = 0
+number_of (Ok tt) = 0
 number_of (Refused r) = r.number
 
 abbrev pub place_of : Checked → ℕ
-place_of Accepted = 0
+place_of (Ok tt) = 0
 place_of (Refused r) = r.place
 
 -- a line of the table: its number, and whether it is given
@@ -32,12 +38,12 @@ first_of p (l ∷ ls) = cond l.1 (refusal l.0 p) (first_of p ls)
 
 -- the first refusal of two answers
 infixr 20 ◌then◌
-unfoldable pub ◌then◌ : Checked → Checked → Checked
-◌then◌ Accepted y = y
+abbrev pub ◌then◌ : Checked → Checked → Checked
+◌then◌ (Ok tt) y = y
 ◌then◌ (Refused r) y = Refused r
 
 -- the first refusal of f 0, f 1, .., f (n - 1)
-unfoldable pub first_below : (ℕ → Checked) → ℕ → Checked
+abbrev pub first_below : (ℕ → Checked) → ℕ → Checked
 first_below f zero = Accepted
 first_below f (suc n) = first_below f n then f n
 

@@ -1,10 +1,8 @@
 -- A call of the run, from bytes: refusals 1 to 16 and 20, else the whole run.
-use Rattle.std.specs.Prelude.{◌≡◌, Bool, ◌&&◌, ◌||◌, List, [], ◌∷◌, ℕ, eqb, ltb, length, get_or}
+use Rattle.std.specs.Prelude.{Err as Refused, ◌≡◌, Bool, ◌&&◌, ◌||◌, List, [], ◌∷◌, ℕ, eqb, ltb, length, get_or}
 use Rattle.problem.specs.declared.Refusal.{Refusal}
-use Rattle.problem.specs.declared.Checked.{Checked}
-use Rattle.problem.specs.declared.Checked.TheVariants.{Accepted, Refused}
 use Rattle.problem.specs.Layout.{node_count, node_at}
-use Rattle.problem.specs.Refusals.{first_of, ◌then◌, first_below, bit_outside, checked}
+use Rattle.problem.specs.Refusals.{Checked, Accepted, first_of, ◌then◌, first_below, bit_outside, checked}
 use Rattle.search.specs.declared.Outcome.{Outcome}
 use Rattle.search.specs.declared.Answer.{Answer}
 use Rattle.nodes.specs.Problem.{problem}

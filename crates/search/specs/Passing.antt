@@ -1,6 +1,5 @@
 -- What "More is never worse" speaks of: a longer call, the one result that a call has, and a run that passes through a state.
 use Rattle.std.specs.Prelude.{◌≡◌, List, ℕ, ◌+◌, ◌≤◌, ◌<◌, length, set, take, drop}
-use Rattle.problem.specs.declared.Checked.TheVariants.{Accepted}
 use Rattle.search.specs.declared.Answer.{Answer}
 use Rattle.nodes.specs.Problem.{Prob, problem, evaluate}
 use Rattle.evaluation.specs.Lists.{Lists}
@@ -8,6 +7,7 @@ use Rattle.evaluation.specs.Readers.{Above}
 use Rattle.moves.specs.Moves.{sets, stuck, AllOne, Move, ClosedRoot}
 use Rattle.search.specs.Run.{Run}
 use Rattle.search.specs.Call.{refusals, Called}
+use Rattle.problem.specs.Refusals.{Accepted}
 
 -- the longer call: "a greater or equal budget and a tape that begins with the same words", those that the answer a used
 pub record Longer (ws : List ℕ) (B : ℕ) (a : Answer) (ws' : List ℕ) (B' : ℕ) : Type 0 where

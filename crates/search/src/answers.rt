@@ -5,18 +5,14 @@ ghost use Rattle.search.specs.Answers.{verdict_number, verdict_code, refusal_cod
 use crate::{Outcome, Verdict};
 use problem::Refusal;
 
+// (`as`: the variants stand in the order of their numbers, and no `From` takes them.)
 fn verdict_number(v: Verdict) -> u64
     ensures { result ≡ verdict_number v }
 {
-    match v {
-        Verdict::Model => 0,
-        Verdict::Spent => 1,
-        Verdict::Ended => 2,
-        Verdict::Closed => 3,
-    }
+    v as u64
 }
 
-// 0 model, 1 spent, 2 ended, 3 closed, 4 refused.
+/// 0 model, 1 spent, 2 ended, 3 closed, 4 refused.
 pub fn verdict_code(o: Outcome) -> u64
     ensures { result ≡ verdict_code o }
 {
@@ -26,14 +22,14 @@ pub fn verdict_code(o: Outcome) -> u64
     }
 }
 
-// A refusal as one number: its number + 256 times its place.
+/// A refusal as one number: its number + 256 times its place.
 pub fn refusal_code(why: Refusal) -> u64
     ensures { result ≡ refusal_code why.number why.place }
 {
-    (why.number as u64) + 256 * (why.place as u64)
+    u64::from(why.number) + 256 * u64::from(why.place)
 }
 
-// 0 where nothing is refused.
+/// 0 where nothing is refused.
 pub fn outcome_code(outcome: Outcome) -> u64
     ensures { result ≡ outcome_code outcome }
 {

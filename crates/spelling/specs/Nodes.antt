@@ -1,5 +1,5 @@
 -- Refusal 4 and the nodes of a line: what must fit, and how each operator is spelled out in the kinds of the search.
-use Rattle.std.specs.Prelude.{Bool, true, false, cond, ◌&&◌, ◌||◌, not, List, [], ◌∷◌, ◌++◌, ℕ, zero, suc, ◌+◌, ◌-◌, ◌^◌, ◌%◌, ltb, leb, eqb, length, get_or}
+use Rattle.std.specs.Prelude.{Bool, true, false, cond, ◌&&◌, ◌||◌, List, [], ◌∷◌, ℕ, ◌+◌, ◌-◌, ◌^◌, ◌%◌, ltb, leb, eqb}
 use Rattle.problem.specs.declared.layout.Node.{Node}
 use Rattle.spelling.specs.declared.line.Operand.{Operand}
 use Rattle.lines.specs.Words.{Word, sort, input, zeros, one, ones, const, constd, consth, inv, conj, disj, xor, add, sub, mul, sll, srl, sra, eq, neq, ult, slt, ite, concat, slice, uext, sext, constraint, other}

@@ -6,12 +6,12 @@ ghost use Rattle.spelling.specs.Nodes.{constant_value};
 ghost use Rattle.spelling.specs.inner.Spelled.{most_of, constant_fits};
 ghost use Rattle.spelling.specs.inner.Constants.{Told, Literally};
 
-use lines::{base_of, is_signed, unsigned_of};
-use texts::{Number, value_in};
-use words::to_width;
+use lines::{base_of, is_signed, keyword, unsigned_of};
+use texts::value_in;
 
-// Whether a line's constant fits, and its value, where it has one.
-#[derive(Clone, Copy)]
+// Whether a line's constant fits, and its value, where it has one. (Two parts, and no Option: `zero`, `one` and `ones` tell a value and have no
+// constant that could fit, and `literal_of_determined` speaks of both.)
+#[derive(Clone, Copy, Debug, PartialEq, Eq)]
 pub struct Literal {
     pub fits: bool,
     pub value: u64,
@@ -21,10 +21,10 @@ pub struct Literal {
 pub(crate) fn ones(w: u8) -> u64
     ensures { w ≤ 64 → result ≡ 2 ^ w - 1 }
 {
-    if (w == 0) | (64 < w) {
+    if 64 < w {
         return 0;
     }
-    to_width(18446744073709551615, w as u32)
+    operators::ones(u32::from(w))
 }
 
 // The greatest number that fits, by a constant's base and sign.
@@ -42,12 +42,12 @@ fn constant_fits(base: u8, t: &[u8], w: u8) -> bool
     ensures { 0 < base → 1 ≤ w → w ≤ 64 → result ≡ constant_fits base w t.now }
 {
     if base == 2 {
-        return t.len() == (w as usize);
+        return t.len() == usize::from(w);
     }
     if base == 0 {
         return true;
     }
-    let Number::Small(n) = value_in(unsigned_of(t), base) else {
+    let Some(n) = value_in(unsigned_of(t), base) else {
         return false;
     };
     n <= most_of(base, t, w)
@@ -60,7 +60,7 @@ fn constant_value(base: u8, t: &[u8], w: u8) -> u64
     if base == 0 {
         return 0;
     }
-    let Number::Small(n) = value_in(unsigned_of(t), base) else {
+    let Some(n) = value_in(unsigned_of(t), base) else {
         return 0;
     };
     if !is_signed(t) {
@@ -77,16 +77,12 @@ fn constant_value(base: u8, t: &[u8], w: u8) -> u64
 fn value_of(word: u8, t: &[u8], w: u8) -> u64
     ensures { Told word w t.now result }
 {
-    if word == 2 {
-        return 0;
+    match word {
+        keyword::ZERO => 0,
+        keyword::ONE => 1,
+        keyword::ONES => ones(w),
+        _ => constant_value(base_of(word), t, w),
     }
-    if word == 3 {
-        return 1;
-    }
-    if word == 4 {
-        return ones(w);
-    }
-    constant_value(base_of(word), t, w)
 }
 
 pub fn literal_of(word: u8, t: &[u8], w: u8) -> Literal

@@ -1,10 +1,13 @@
 // What must fit on a line of each keyword, and how it is spelled out in nodes.
 ghost use Rattle.std.specs.Prelude.{◌≡◌};
 ghost use Rattle.lines.specs.Words.{word_of};
-ghost use Rattle.spelling.specs.inner.Spelled.{rule_of, form_of, kind_for};
+ghost use Rattle.spelling.specs.inner.Spelled.{rule_of, form_of};
+
+use lines::keyword;
+use operators::kind;
 
 // What must fit on a line, by the widths of its sort and its operands, its numbers and its constant.
-#[derive(Clone, Copy)]
+#[derive(Clone, Copy, Debug, PartialEq, Eq)]
 pub enum Rule {
     // Nothing.
     Free,
@@ -30,13 +33,13 @@ pub enum Rule {
 }
 
 // How a line is spelled out in nodes.
-#[derive(Clone, Copy)]
+#[derive(Clone, Copy, Debug, PartialEq, Eq)]
 pub enum Form {
     Nothing,
     Variable,
     Constant,
-    // One node of the keyword's kind.
-    Plain,
+    // One node of a kind.
+    Plain(u8),
     Slice,
     Or,
     Sub,
@@ -45,95 +48,54 @@ pub enum Form {
     Sext,
 }
 
-const KINDS: [u8; 28] = [
-    0, 0, 1, 1, 1, 1, 1, 1, 2, 3, 0, 4, 5, 0, 6, 7, 8, 15, 9, 0, 10, 14, 11, 12, 13, 0, 16, 0,
-];
-
-const RULES: [Rule; 28] = [
-    Rule::Sort,
-    Rule::Free,
-    Rule::Free,
-    Rule::Free,
-    Rule::Free,
-    Rule::Constant,
-    Rule::Constant,
-    Rule::Constant,
-    Rule::One,
-    Rule::Two,
-    Rule::Two,
-    Rule::Two,
-    Rule::Two,
-    Rule::Two,
-    Rule::Two,
-    Rule::Two,
-    Rule::Two,
-    Rule::Two,
-    Rule::Compare,
-    Rule::Compare,
-    Rule::Compare,
-    Rule::Compare,
-    Rule::If,
-    Rule::Concat,
-    Rule::Slice,
-    Rule::Extend,
-    Rule::Extend,
-    Rule::Bit,
-];
-
-const FORMS: [Form; 28] = [
-    Form::Nothing,
-    Form::Variable,
-    Form::Constant,
-    Form::Constant,
-    Form::Constant,
-    Form::Constant,
-    Form::Constant,
-    Form::Constant,
-    Form::Plain,
-    Form::Plain,
-    Form::Or,
-    Form::Plain,
-    Form::Plain,
-    Form::Sub,
-    Form::Plain,
-    Form::Plain,
-    Form::Plain,
-    Form::Plain,
-    Form::Plain,
-    Form::Neq,
-    Form::Plain,
-    Form::Plain,
-    Form::Plain,
-    Form::Plain,
-    Form::Slice,
-    Form::Uext,
-    Form::Sext,
-    Form::Nothing,
-];
-
-// The kind of the node that a keyword of form Plain makes.
-pub(crate) fn kind_of(word: u8) -> u8
-    ensures { result ≡ kind_for (word_of word) }
-{
-    if word < 28 { KINDS[word as usize] } else { 0 }
+/// What must fit on a line, and how it is spelled out, by its keyword.
+#[derive(Clone, Copy, Debug, PartialEq, Eq)]
+pub(crate) struct Row {
+    pub rule: Rule,
+    pub form: Form,
 }
 
-pub(crate) fn rule_of(word: u8) -> Rule
-    ensures { result ≡ rule_of (word_of word) }
+fn new_row(rule: Rule, form: Form) -> Row
+    ensures { result ≡ record { rule = rule; form = form } }
 {
-    if word < 28 {
-        RULES[word as usize]
-    } else {
-        Rule::Free
-    }
+    Row { rule, form }
 }
 
-pub(crate) fn form_of(word: u8) -> Form
-    ensures { result ≡ form_of (word_of word) }
+/// The row of a keyword; a word outside the list has the last.
+#[tactic(auto, unfolding(crate::specs::inner::Spelled::rule_of, crate::specs::inner::Spelled::form_of))]
+pub(crate) fn row_of(word: u8) -> Row
+    ensures rule { result.rule ≡ rule_of (word_of word) }
+    ensures form { result.form ≡ form_of (word_of word) }
 {
-    if word < 28 {
-        FORMS[word as usize]
-    } else {
-        Form::Nothing
+    match word {
+        keyword::SORT => new_row(Rule::Sort, Form::Nothing),
+        keyword::INPUT => new_row(Rule::Free, Form::Variable),
+        keyword::ZERO => new_row(Rule::Free, Form::Constant),
+        keyword::ONE => new_row(Rule::Free, Form::Constant),
+        keyword::ONES => new_row(Rule::Free, Form::Constant),
+        keyword::CONST => new_row(Rule::Constant, Form::Constant),
+        keyword::CONSTD => new_row(Rule::Constant, Form::Constant),
+        keyword::CONSTH => new_row(Rule::Constant, Form::Constant),
+        keyword::NOT => new_row(Rule::One, Form::Plain(kind::NOT)),
+        keyword::AND => new_row(Rule::Two, Form::Plain(kind::AND)),
+        keyword::OR => new_row(Rule::Two, Form::Or),
+        keyword::XOR => new_row(Rule::Two, Form::Plain(kind::XOR)),
+        keyword::ADD => new_row(Rule::Two, Form::Plain(kind::ADD)),
+        keyword::SUB => new_row(Rule::Two, Form::Sub),
+        keyword::MUL => new_row(Rule::Two, Form::Plain(kind::MUL)),
+        keyword::SLL => new_row(Rule::Two, Form::Plain(kind::SHL)),
+        keyword::SRL => new_row(Rule::Two, Form::Plain(kind::LSHR)),
+        keyword::SRA => new_row(Rule::Two, Form::Plain(kind::ASHR)),
+        keyword::EQ => new_row(Rule::Compare, Form::Plain(kind::EQ)),
+        keyword::NEQ => new_row(Rule::Compare, Form::Neq),
+        keyword::ULT => new_row(Rule::Compare, Form::Plain(kind::BELOW)),
+        keyword::SLT => new_row(Rule::Compare, Form::Plain(kind::SLT)),
+        keyword::ITE => new_row(Rule::If, Form::Plain(kind::IF)),
+        keyword::CONCAT => new_row(Rule::Concat, Form::Plain(kind::CONCAT)),
+        keyword::SLICE => new_row(Rule::Slice, Form::Slice),
+        keyword::UEXT => new_row(Rule::Extend, Form::Uext),
+        keyword::SEXT => new_row(Rule::Extend, Form::Sext),
+        keyword::CONSTRAINT => new_row(Rule::Bit, Form::Nothing),
+        keyword::OUTSIDE..=u8::MAX => new_row(Rule::Free, Form::Nothing),
     }
 }

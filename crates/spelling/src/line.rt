@@ -2,7 +2,7 @@
 use crate::constants::Literal;
 
 // A line's operand: whether a not is wanted, the node that its reference names, and that node's width.
-#[derive(Clone, Copy)]
+#[derive(Clone, Copy, Debug, PartialEq, Eq)]
 pub struct Operand {
     pub negative: bool,
     pub node: u16,
@@ -10,14 +10,14 @@ pub struct Operand {
 }
 
 // The operands of a line; one that it does not have is all 0.
-#[derive(Clone, Copy)]
+#[derive(Clone, Copy, Debug, PartialEq, Eq)]
 pub struct Operands {
     pub a: Operand,
     pub b: Operand,
     pub c: Operand,
 }
 
-#[derive(Clone, Copy)]
+#[derive(Clone, Copy, Debug, PartialEq, Eq)]
 pub struct Line {
     pub word: u8,
     pub id: u64,

@@ -5,37 +5,48 @@ ghost use Rattle.spelling.specs.Nodes.{operator, constant_node, invert, variable
 ghost use Rattle.spelling.specs.inner.Spelled.{rule_fits, or_nodes, sub_nodes, neq_nodes, uext_nodes, own_count, spelled_by, one_if, placed_at, three_of, nots_of, count_read, new_read, standing_for, fits_read};
 
 use crate::constants::ones;
-use crate::forms::{Form, Rule, form_of, kind_of, rule_of};
+use crate::forms::{Form, Rule, row_of};
 use crate::line::{Line, Operand, Operands};
+use operators::kind;
 use problem::Node;
 
 // ---- what must fit
 
-fn slice_fits(w: u8, wa: u8, p: u8, q: u8) -> bool
-    ensures { result ≡ rule_fits Slice w wa 0 0 p q true }
+#[tactic(auto, unfolding(crate::specs::inner::Spelled::rule_fits))]
+fn slice_fits(x: Line) -> bool
+    ensures { result ≡ rule_fits Slice x.width x.ops.a.width 0 0 x.first x.second true }
 {
-    if p < q {
-        return false;
-    }
-    (p < wa) & (((p - q) as u16) + 1 == (w as u16))
+    x.second <= x.first
+        && x.first < x.ops.a.width
+        && u16::from(x.first - x.second) + 1 == u16::from(x.width)
 }
 
-fn rule_fits(rule: Rule, w: u8, wa: u8, wb: u8, wc: u8, p: u8, q: u8, constant: bool) -> bool
-    ensures { result ≡ rule_fits rule w wa wb wc p q constant }
+#[tactic(auto, unfolding(crate::specs::inner::Spelled::rule_fits))]
+fn rule_fits(rule: Rule, x: Line) -> bool
+    ensures { result ≡ rule_fits rule x.width x.ops.a.width x.ops.b.width x.ops.c.width x.first x.second x.literal.fits }
 {
+    let a = x.ops.a.width;
+    let b = x.ops.b.width;
     match rule {
         Rule::Free => true,
-        Rule::Sort => (1 <= p) & (p <= 64),
-        Rule::Constant => constant,
-        Rule::One => wa == w,
-        Rule::Two => (wa == w) & (wb == w),
-        Rule::Compare => (wa == wb) & (w == 1),
-        Rule::If => (wa == 1) & (wb == w) & (wc == w),
-        Rule::Concat => (wa as u16) + (wb as u16) == (w as u16),
-        Rule::Slice => slice_fits(w, wa, p, q),
-        Rule::Extend => (wa as u16) + (p as u16) == (w as u16),
-        Rule::Bit => wa == 1,
+        Rule::Sort => 1 <= x.first && x.first <= 64,
+        Rule::Constant => x.literal.fits,
+        Rule::One => a == x.width,
+        Rule::Two => a == x.width && b == x.width,
+        Rule::Compare => a == b && x.width == 1,
+        Rule::If => a == 1 && b == x.width && x.ops.c.width == x.width,
+        Rule::Concat => u16::from(a) + u16::from(b) == u16::from(x.width),
+        Rule::Slice => slice_fits(x),
+        Rule::Extend => u16::from(a) + u16::from(x.first) == u16::from(x.width),
+        Rule::Bit => a == 1,
     }
+}
+
+#[tactic(auto, unfolding(crate::specs::inner::Spelled::fits_read))]
+pub fn line_fits(x: Line) -> bool
+    ensures { result ≡ fits_read x }
+{
+    rule_fits(row_of(x.word).rule, x)
 }
 
 // ---- nodes
@@ -58,7 +69,7 @@ fn constant_node(w: u8, v: u64) -> Node
     ensures { result ≡ constant_node w v }
 {
     Node {
-        kind: 1,
+        kind: kind::CONSTANT,
         width: w,
         a: 0,
         b: 0,
@@ -72,7 +83,7 @@ fn variable_node(w: u8) -> Node
     ensures { w ≤ 64 → result ≡ variable_node w }
 {
     Node {
-        kind: 0,
+        kind: kind::VARIABLE,
         width: w,
         a: 0,
         b: 0,
@@ -85,101 +96,97 @@ fn variable_node(w: u8) -> Node
 fn not_of(w: u8, a: u16) -> Node
     ensures { result ≡ invert w a }
 {
-    operator_node(2, w, a, 0, 0)
+    operator_node(kind::NOT, w, a, 0, 0)
 }
 
 // or: not x, not y, and, not.
+// (Numbers one by one, here and below, as the definitions of these nodes have them.)
+#[tactic(auto, unfolding(crate::specs::inner::Spelled::or_nodes), using(crate::specs::laws::Spell::or_three))]
 fn or_node(j: u16, w: u8, n: u16, x: u16, y: u16) -> Node
     requires { n ≤ 2000 }
     ensures { j < 4 → result ≡ get_or (or_nodes w n x y) j (invert 0 0) }
 {
-    if j == 0 {
-        return not_of(w, x);
+    match j {
+        0 => not_of(w, x),
+        1 => not_of(w, y),
+        2 => operator_node(kind::AND, w, n, n + 1, 0),
+        _ => not_of(w, n + 2),
     }
-    if j == 1 {
-        return not_of(w, y);
-    }
-    if j == 2 {
-        return operator_node(3, w, n, n + 1, 0);
-    }
-    not_of(w, n + 2)
 }
 
 // sub: not a, add of that and b, not.
+#[tactic(auto, unfolding(crate::specs::inner::Spelled::sub_nodes), using(crate::specs::laws::Spell::sub_two))]
 fn sub_node(j: u16, w: u8, n: u16, a: u16, b: u16) -> Node
     requires { n ≤ 2000 }
     ensures { j < 3 → result ≡ get_or (sub_nodes w n a b) j (invert 0 0) }
 {
-    if j == 0 {
-        return not_of(w, a);
+    match j {
+        0 => not_of(w, a),
+        1 => operator_node(kind::ADD, w, n, b, 0),
+        _ => not_of(w, n + 1),
     }
-    if j == 1 {
-        return operator_node(5, w, n, b, 0);
-    }
-    not_of(w, n + 1)
 }
 
 // neq: eq, not.
+#[tactic(auto, unfolding(crate::specs::inner::Spelled::neq_nodes), using(crate::specs::laws::Spell::neq_one))]
 fn neq_node(j: u16, w: u8, n: u16, a: u16, b: u16) -> Node
     ensures { j < 2 → result ≡ get_or (neq_nodes w n a b) j (invert 0 0) }
 {
-    if j == 0 {
-        return operator_node(9, w, a, b, 0);
+    match j {
+        0 => operator_node(kind::EQ, w, a, b, 0),
+        _ => not_of(w, n),
     }
-    not_of(w, n)
 }
 
 // uext by p: 0 of p bits, concat of it and a.
+#[tactic(auto, unfolding(crate::specs::inner::Spelled::uext_nodes), using(crate::specs::laws::Spell::uext_one))]
 fn uext_node(j: u16, w: u8, n: u16, a: u16, p: u8) -> Node
     ensures { j < 2 → result ≡ get_or (uext_nodes w n a p) j (invert 0 0) }
 {
-    if j == 0 {
-        return constant_node(p, 0);
+    match j {
+        0 => constant_node(p, 0),
+        _ => operator_node(kind::CONCAT, w, n, a, 0),
     }
-    operator_node(12, w, n, a, 0)
 }
 
-// Node j of the line's own, of which the first has the id n.
-fn own_node(
-    form: Form,
-    kind: u8,
-    j: u16,
-    w: u8,
+// Where a line's own nodes stand: the id of the first, and the nodes that are its operands.
+#[derive(Clone, Copy, Debug, PartialEq, Eq)]
+struct Placed {
     n: u16,
     a: u16,
     b: u16,
     c: u16,
-    p: u8,
-    q: u8,
-    v: u64,
-) -> Node
-    requires { n ≤ 2000 }
-    ensures { w ≤ 64 → j < own_count form p → result ≡ get_or (spelled_by form kind w n a b c p q v) j (invert 0 0) }
+}
+
+// Node j of the line's own.
+#[tactic(auto, unfolding(crate::specs::inner::Spelled::spelled_by, crate::specs::inner::Spelled::own_count, crate::specs::Nodes::unless_zero))]
+fn own_node(form: Form, x: Line, at: Placed, j: u16) -> Node
+    requires { at.n ≤ 2000 }
+    ensures { x.width ≤ 64 → j < own_count form x.first → result ≡ get_or (spelled_by form x.width at.n at.a at.b at.c x.first x.second x.literal.value) j (invert 0 0) }
 {
+    let w = x.width;
     match form {
         Form::Nothing => not_of(0, 0),
         Form::Variable => variable_node(w),
-        Form::Constant => constant_node(w, v),
-        Form::Plain => operator_node(kind, w, a, b, c),
-        Form::Slice => operator_node(13, w, a, q as u16, 0),
-        Form::Or => or_node(j, w, n, a, b),
-        Form::Sub => sub_node(j, w, n, a, b),
-        Form::Neq => neq_node(j, w, n, a, b),
-        Form::Uext => uext_node(j, w, n, a, p),
-        Form::Sext => operator_node(16, w, a, 0, 0),
+        Form::Constant => constant_node(w, x.literal.value),
+        Form::Plain(kind) => operator_node(kind, w, at.a, at.b, at.c),
+        Form::Slice => operator_node(kind::EXTRACT, w, at.a, u16::from(x.second), 0),
+        Form::Or => or_node(j, w, at.n, at.a, at.b),
+        Form::Sub => sub_node(j, w, at.n, at.a, at.b),
+        Form::Neq => neq_node(j, w, at.n, at.a, at.b),
+        Form::Uext => uext_node(j, w, at.n, at.a, x.first),
+        Form::Sext => operator_node(kind::SEXT, w, at.a, 0, 0),
     }
 }
 
 // How many they are.
+#[tactic(auto, unfolding(crate::specs::inner::Spelled::own_count))]
 fn own_count(form: Form, p: u8) -> u16
     ensures { result ≡ own_count form p }
 {
     match form {
         Form::Nothing => 0,
-        Form::Variable => 1,
-        Form::Constant => 1,
-        Form::Plain => 1,
-        Form::Slice => 1,
+        Form::Variable | Form::Constant | Form::Plain(_) | Form::Slice => 1,
         Form::Or => 4,
         Form::Sub => 3,
         Form::Neq => 2,
@@ -190,19 +197,22 @@ fn own_count(form: Form, p: u8) -> u16
 
 // ---- the nots in front
 
+#[tactic(auto, unfolding(crate::specs::inner::Spelled::one_if))]
 fn one_if(b: bool) -> u16
     ensures { result ≡ one_if b }
 {
-    if b { 1 } else { 0 }
+    u16::from(b)
 }
 
 // The node that then is an operand, where n is the id of its not.
+#[tactic(auto, unfolding(crate::specs::inner::Spelled::placed_at))]
 fn placed_at(o: Operand, n: u16) -> u16
     ensures { result ≡ placed_at o n }
 {
     if o.negative { n } else { o.node }
 }
 
+#[tactic(auto, unfolding(crate::specs::inner::Spelled::nots_of, crate::specs::inner::Spelled::one_if))]
 fn nots_of(ops: Operands) -> u16
     ensures { result ≡ nots_of ops }
 {
@@ -225,13 +235,15 @@ fn not_node(ops: Operands, j: u16) -> Node
 
 // ---- all nodes of a line
 
+#[tactic(auto, unfolding(crate::specs::inner::Spelled::count_read), using(crate::specs::laws::Spell::nots_few, crate::specs::laws::Spell::own_few))]
 pub fn new_count(x: Line) -> u16
     ensures { result ≡ count_read x }
 {
-    nots_of(x.ops) + own_count(form_of(x.word), x.first)
+    nots_of(x.ops) + own_count(row_of(x.word).form, x.first)
 }
 
 // Node j of a line, of which the first has the id n.
+// (n in a clause of its own: who has a line spelled out has it as a count.)
 pub fn new_node(x: Line, n: u16, j: u16) -> Node
     requires { n ≤ 1024 }
     ensures { x.width ≤ 64 → j < count_read x → result ≡ get_or (new_read x n) j (invert 0 0) }
@@ -243,46 +255,24 @@ pub fn new_node(x: Line, n: u16, j: u16) -> Node
     }
     let second = n + one_if(ops.a.negative);
     let third = second + one_if(ops.b.negative);
-    let a = placed_at(ops.a, n);
-    let b = placed_at(ops.b, second);
-    let c = placed_at(ops.c, third);
-    own_node(
-        form_of(x.word),
-        kind_of(x.word),
-        j - before,
-        x.width,
-        n + before,
-        a,
-        b,
-        c,
-        x.first,
-        x.second,
-        x.literal.value,
-    )
+    let at = Placed {
+        n: n + before,
+        a: placed_at(ops.a, n),
+        b: placed_at(ops.b, second),
+        c: placed_at(ops.c, third),
+    };
+    own_node(row_of(x.word).form, x, at, j - before)
 }
 
 // The node that a line's id stands for: its last, or its operand where it makes none.
+#[tactic(auto, unfolding(crate::specs::inner::Spelled::standing_for))]
 pub fn node_for(x: Line, n: u16, total: u16) -> u16
     requires { (n ≤ 1024) × (total ≤ 10) }
     ensures { result ≡ standing_for x n total }
 {
     if total == 0 {
-        return placed_at(x.ops.a, n);
+        placed_at(x.ops.a, n)
+    } else {
+        n + total - 1
     }
-    n + total - 1
-}
-
-pub fn line_fits(x: Line) -> bool
-    ensures { result ≡ fits_read x }
-{
-    rule_fits(
-        rule_of(x.word),
-        x.width,
-        x.ops.a.width,
-        x.ops.b.width,
-        x.ops.c.width,
-        x.first,
-        x.second,
-        x.literal.fits,
-    )
 }

@@ -11,33 +11,20 @@ fn put_header(out: &mut [u8], nodes: u16, roots: u16)
     requires { 9 ≤ length out.old }
     ensures { out.new ≡ sets out.old 0 (header_bytes nodes roots) }
 {
-    put(out, 0, 5653076, 3);
-    put(out, 3, 1, 2);
-    put(out, 5, nodes as u64, 2);
-    put(out, 7, roots as u64, 2);
-}
-
-// So many bytes, from a place on.
-fn copy(out: &mut [u8], at: usize, bytes: &[u8], count: usize)
-    requires { (at + count ≤ length out.old) × (count ≤ length bytes.now) }
-    ensures { out.new ≡ sets out.old at (take count bytes.now) }
-{
-    let mut i: usize = 0;
-    while i < count {
-        out[at + i] = bytes[i];
-        i += 1;
-    }
+    put(out, 0, b"TBV");
+    put(out, 3, &1u16.to_le_bytes());
+    put(out, 5, &nodes.to_le_bytes());
+    put(out, 7, &roots.to_le_bytes());
 }
 
 // So many roots, from a place on.
+// (By number: it is the place in the list and in the bytes.)
 fn put_roots(out: &mut [u8], at: usize, rooted: &[u16], count: u16)
     requires { (at + 2 * count ≤ length out.old) × (count ≤ length rooted.now) }
     ensures { out.new ≡ sets out.old at (all_roots (take count rooted.now)) }
 {
-    let mut i: u16 = 0;
-    while i < count {
-        put(out, at + 2 * (i as usize), rooted[i as usize] as u64, 2);
-        i += 1;
+    for i in 0..usize::from(count) {
+        put(out, at + 2 * i, &rooted[i].to_le_bytes());
     }
 }
 
@@ -46,10 +33,10 @@ pub fn write_all(out: &mut [u8], bytes: &[u8], rooted: &[u16], nodes: u16, roots
     requires { (9 + 24 * nodes + 2 * roots ≤ length out.old) × (24 * nodes ≤ length bytes.now) × (roots ≤ length rooted.now) }
     ensures { Wrote out.old bytes.now rooted.now nodes roots out.new result }
 {
-    let size = 24 * (nodes as usize);
+    let size = 24 * usize::from(nodes);
     let middle = 9 + size;
     put_header(out, nodes, roots);
-    copy(out, 9, bytes, size);
+    put(out, 9, &bytes[..size]);
     put_roots(out, middle, rooted, roots);
-    middle + 2 * (roots as usize)
+    middle + 2 * usize::from(roots)
 }

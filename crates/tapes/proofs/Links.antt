@@ -1,87 +1,72 @@
 -- Heights: what the code reads and fills in, and that they are the longest chains.
-use mathlib.Core.Path.{◌≡◌, refl, sym, ap, ◌∙◌, subst}
-use mathlib.Core.Bool.{true}
-use mathlib.Core.List.{List}
-use Prim.Native.Nat.{ℕ, suc, ◌+◌, ◌*◌, ◌≤◌, ◌<◌, max}
-use native.Mathlib.Omega.{arith}
-use native.Mathlib.Nat.{mul-le-mul}
-use native.Mathlib.Numerals.{add-one}
-use native.Mathlib.Decide.{ℕ_discrete}
-use lib.Dec.{ltb}
-use lib.ListN.{length, get_or, set, length-set}
-use lib.Seq.{get_or-set_same, get_or-set_other}
-use borrow.Author.Tests.{ltb-true}
+use Rattle.std.proofs.Common.{◌≡◌, refl, ◌∙◌, List, ℕ, suc, ◌+◌, ◌*◌, ◌≤◌, ◌<◌, max, length, get_or, set, arith, add-one, mul-le-mul}
+use Rattle.std.proofs.Math.Decide.{ℕ_discrete}
+use Rattle.std.proofs.Math.Seq.{get_or-set_same, get_or-set_other}
 use Rattle.operators.specs.Table.{shape_of}
 use Rattle.problem.specs.declared.layout.Node.{Node}
 use Rattle.problem.specs.Layout.{node_at, root_at}
+use Rattle.problem.specs.Refusals.{Accepted, checked}
 use Rattle.picking.specs.Spot.{at}
-use Rattle.picking.specs.laws.Positions.{few_positions}
-use Rattle.nodes.specs.Problem.{Prob, one_of, problem, count, arg}
+use Rattle.nodes.specs.Problem.{Prob, problem, count, arg}
 use Rattle.evaluation.specs.Height.{Longest}
 use Rattle.nodes.specs.inner.Good.{Good}
 use Rattle.nodes.specs.laws.Good.{good_of}
-use Rattle.evaluation.specs.laws.Height.{greatest, greatest_of_three, Height, height_over, height_short, longest_over}
+use Rattle.evaluation.specs.laws.Height.{greatest, Height, height_over, height_short, longest_over, longest_short}
 use Rattle.nodes.specs.inner.Nodes.{ids}
 use Rattle.tapes.specs.inner.Heights.{Heights}
 
-module _ (s hs : List ℕ) (i : ℕ) (t : Heights s hs i) (l : i < (problem s).nodes) where
+-- the greatest of one link more than the heights of node i's first j operands
+unfoldable pub above : List ℕ → List ℕ → ℕ → ℕ → ℕ
+above s hs i j = greatest (λ k. suc (get_or hs (arg (problem s) i k) 0)) j
+
+pub above_none : (s hs : List ℕ) (i : ℕ) → 0 ≡ above s hs i 0
+unfolding above greatest
+above_none s hs i = refl
+
+pub above_more :
+    (s hs : List ℕ) (i j m r : ℕ) (n : Node)
+    → m ≡ above s hs i j
+    → n ≡ node_at s i
+    → r ≡ max m (get_or hs (at (ids n) j) 0 + 1)
+    → r ≡ above s hs i (j + 1)
+unfolding above greatest problem
+above_more s hs i j m r n em en er = rw add-one (er ∙ rw (em, en, add-one))
+
+module _ (s hs : List ℕ) (i : ℕ) (a : checked s ≡ Accepted) (t : Heights s hs i) (l : i < (problem s).nodes) where
   abbrev P : Prob
   P = problem s
 
   good : Good P
-  good = good_of s t.accepted
+  good = good_of s a
 
   below : (j : ℕ) → j < count P i → Height P (arg P i j) (get_or hs (arg P i j) 0)
-  below j b = t.so_far (arg P i j) ((good.node i l).below j b)
+  below j b = t (arg P i j) ((good.node i l).below j b)
 
-  -- a position that the code's test finds there: its operand's height stands in the list, and one link more fits
+  -- an operand's height stands in the list, and one link more fits
   pub operand_there :
-      (n : Node) {c : ℕ}
-      → n ≡ node_at s i
-      → c ≡ (shape_of n.kind).operands
-      → (j : ℕ)
-      → ltb j c ≡ true
-      → (at (ids n) j < length hs) × (get_or hs (at (ids n) j) 0 < 1024)
+      (n : Node) (c j m : ℕ) → n ≡ node_at s i → c ≡ (shape_of n.kind).operands → j < c → m ≡ at (ids n) j → (m < 1024) × (get_or hs m 0 < 1024)
   unfolding problem
-  operand_there n {c} en ec j e =
-      let b : j < count P i = rw en at (rw ec at (ltb-true j c e)) in
+  operand_there n c j m en ec h e =
+      let b : j < count P i = rw en at (rw ec at h) in
       let d : arg P i j < i = (good.node i l).below j b in
-      rw en (omega (arith, d, l, good.few, t.long), height_short P good (omega (arith, d, l)) (below j b))
+      rw (e, en) (omega (arith, d, l, good.few), height_short P good (omega (arith, d, l)) (below j b))
 
-  -- the code's maximum of three is the node's height
-  pub height_made :
-      (n : Node) (c x y z m r : ℕ)
-      → n ≡ node_at s i
-      → c ≡ (shape_of n.kind).operands
-      → x ≡ one_of (ltb 0 c) (suc (get_or hs n.a 0)) 0
-      → y ≡ one_of (ltb 1 c) (suc (get_or hs n.b 0)) 0
-      → z ≡ one_of (ltb 2 c) (suc (get_or hs n.c 0)) 0
-      → m ≡ max y z
-      → r ≡ max x m
-      → Height P i r
-  unfolding problem
-  height_made n c x y z m r en ec ex ey ez em er =
-      let e : r ≡ greatest (λ j. suc (get_or hs (arg P i j) 0)) (count P i) =
-      er ∙ rw (em, ex, ey, ez, ec, en) (greatest_of_three (count P i) (λ j. suc (get_or hs (arg P i j) 0)) (few_positions (P.kind i))) in
-      subst (Height P i) (sym e) (height_over P i (λ j. get_or hs (arg P i j) 0) below)
+  -- the greatest of all is the node's height
+  pub height_made : (n : Node) (c m : ℕ) → n ≡ node_at s i → c ≡ (shape_of n.kind).operands → m ≡ above s hs i c → Height P i m
+  unfolding above problem
+  height_made n c m en ec e = rw (e, ec, en) (height_over P i (λ j. get_or hs (arg P i j) 0) below)
 
-  -- one more is filled in
-  pub heights_more : (h : ℕ) → Height P i h → Heights s (set hs i h) (i + 1)
-  heights_more h k =
-      record {
-        accepted = t.accepted;
-        long = length-set hs i h ∙ t.long;
-        so_far =
-            λ n b.
-            elim (ℕ_discrete n i) [
-              | yes e ↦ rw (e, get_or-set_same hs i h 0 (omega (arith, t.long, good.few))) k
-              | no x ↦ rw (get_or-set_other hs i n h 0 x) (t.so_far n (omega arith))
-            ];
-      }
+-- one more is filled in
+pub node_few : (s : List ℕ) (i : ℕ) → checked s ≡ Accepted → i < (problem s).nodes → i < 1024
+node_few s i a l = omega (arith, l, (good_of s a).few)
 
--- all are filled in
-pub heights_all : (s hs : List ℕ) (i n : ℕ) → i ≡ n → Heights s hs i → Heights s hs n
-heights_all s hs i n e t = rw e at t
+pub heights_more :
+    (s hs : List ℕ) (i h : ℕ) → i < length hs → Heights s hs i → Height (problem s) i h → Heights s (set hs i h) (i + 1)
+heights_more s hs i h long t k n b =
+    elim (ℕ_discrete n i) [
+      | yes e ↦ rw (e, get_or-set_same hs i h 0 long) k
+      | no x ↦ rw (get_or-set_other hs i n h 0 x) (t n (omega arith))
+    ]
 
 -- ---- the greatest, root by root
 
@@ -99,19 +84,16 @@ unfolding greatest tallest problem
 tallest_more s hs j m x r em ex er = rw add-one (er ∙ rw (em, ex))
 
 pub heights_longest :
-    (s hs : List ℕ)
-    → Heights s hs (problem s).nodes
-    → (j m : ℕ)
-    → j ≡ (problem s).entries
-    → m ≡ tallest s hs j
-    → Longest (problem s) m
+    (s hs : List ℕ) → checked s ≡ Accepted → Heights s hs (problem s).nodes → (m : ℕ) → m ≡ tallest s hs (problem s).entries → Longest (problem s) m
 unfolding tallest
-heights_longest s hs t j m e h =
-    let g : Good (problem s) = good_of s t.accepted in
-    rw (h, e)
-    (longest_over (problem s) (λ k. get_or hs ((problem s).root k) 0) (λ k b. t.so_far ((problem s).root k) (g.root_below k b)))
+heights_longest s hs a t m h =
+    let g : Good (problem s) = good_of s a in
+    rw h (longest_over (problem s) (λ k. get_or hs ((problem s).root k) 0) (λ k b. t ((problem s).root k) (g.root_below k b)))
 
--- the words for a budget fit
+-- H is below 1,024, and the words for a budget fit
+pub chain_short : (s : List ℕ) (h : ℕ) → checked s ≡ Accepted → Longest (problem s) h → h < 1024
+chain_short s h a l = longest_short _ (good_of s a) l
+
 pub words_fit : (b h : ℕ) → b < 65536 → h < 1024 → b * (1 + 2 * h) < 18446744073709551616
 words_fit b h p q =
     let x : b ≤ 65535 = omega arith in

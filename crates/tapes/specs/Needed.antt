@@ -1,8 +1,7 @@
 -- Document 02, "How long a tape do I need?": what `need` answers.
-use Rattle.std.specs.Prelude.{◌≡◌, List, ℕ, ◌+◌, ◌*◌}
+use Rattle.std.specs.Prelude.{Err as Refused, ◌≡◌, List, ℕ, ◌+◌, ◌*◌}
 use Rattle.problem.specs.declared.Refusal.{Refusal}
-use Rattle.problem.specs.declared.Checked.TheVariants.{Accepted, Refused}
-use Rattle.problem.specs.Refusals.{checked}
+use Rattle.problem.specs.Refusals.{Accepted, checked}
 use Rattle.tapes.specs.declared.TapeNeed.{TapeNeed}
 use Rattle.nodes.specs.Problem.{problem}
 use Rattle.evaluation.specs.Height.{Longest}

@@ -2,7 +2,6 @@
 use Rattle.std.specs.Prelude.{Bool, true, false, cond, not, ◌&&◌, ◌||◌, List, [], ◌∷◌, ℕ, suc, leb, eqb}
 use Prim.Native.Char.{code}
 use Prim.Native.String.{String}
-use Prim.Native.String as String
 use Rattle.texts.specs.declared.runs.Class.{Class}
 use Rattle.texts.specs.declared.runs.Class.TheVariants.{Line, Blank, Solid, Lower, Comment, Bars, Clean, Bare, Symbol}
 

@@ -1,3 +1,2 @@
--- The definitions to be believed, in this order; then by folder what is inner, what is promised, and laws.
-pub mod Reading
+-- What the program's reader tells.
 pub mod laws

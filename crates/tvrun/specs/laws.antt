@@ -1,2 +1,2 @@
--- Laws of the definitions, for proofs. Nothing here has to be read to know what is promised.
+-- Laws, for proofs.
 pub mod Reading

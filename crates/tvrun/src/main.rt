@@ -2,110 +2,77 @@
 // of the run. Everything that matters is in the crate `files`; here are the calls on files.
 #![tactic(auto)]
 
-ghost use Rattle.std.specs.Prelude.{◌-◌, ◌≤◌, length};
-ghost use Rattle.tvrun.specs.Reading.{AtMost};
+ghost use Rattle.std.specs.Prelude.{◌≤◌, IfOk, length};
 
 use files::{PROBLEM_ROOM, TEXT_ROOM, WORDS_ROOM};
 use std::fs::File;
-use std::io;
 use std::io::{ErrorKind, Read, Write};
+use std::{fmt, io};
 
-// How many bytes of a file were read, or that it cannot be read.
-#[derive(Clone, Copy)]
-enum Reading {
-    Bytes(usize),
-    Failed,
+// What ends the program early.
+#[derive(Clone, Copy, Debug, PartialEq, Eq)]
+enum Fault {
+    Unread(&'static str),
+    Unwritten,
 }
 
-// One read into buf from a place on. It may bring less than there is room for, and brings nothing at the file's end.
-fn read_some<R: Read>(reader: &mut R, buf: &mut [u8], from: usize) -> Reading
-    requires { from ≤ length buf.old }
-    ensures { AtMost (length buf.old - from) result }
-{
-    let Ok(got) = reader.read(&mut buf[from..]) else {
-        return Reading::Failed;
-    };
-    Reading::Bytes(got)
+impl fmt::Display for Fault {
+    fn fmt<W: fmt::Write>(&self, f: &mut fmt::Formatter<W>) -> fmt::Result {
+        match self {
+            Fault::Unread(name) => write!(f, "{name}: cannot be read"),
+            Fault::Unwritten => write!(f, "standard output: cannot be written"),
+        }
+    }
 }
 
-// Reads until buf is full, the file ends or a read fails.
-fn read_all<R: Read>(reader: &mut R, buf: &mut [u8]) -> Reading
-    ensures { AtMost (length buf.new) result }
+// Reads until buf is full, the file ends or a read fails, and answers how many bytes were read. (A `while`: a read may bring less than
+// there is room for, and brings nothing at the file's end.)
+fn read_all<R: Read>(reader: &mut R, buf: &mut [u8]) -> io::Result<usize>
+    ensures { IfOk result (λ n. n ≤ length buf.new) }
 {
     let mut done: usize = 0;
     while done < buf.len() {
-        let Reading::Bytes(more) = read_some(reader, buf, done) else {
-            return Reading::Failed;
-        };
+        let more = reader.read(&mut buf[done..])?;
         if more == 0 {
-            return Reading::Bytes(done);
+            return Ok(done);
         }
         done += more;
     }
-    Reading::Bytes(done)
+    Ok(done)
 }
 
-// "A missing file reads as empty"; one that cannot be opened for another reason cannot be read.
-fn read_file(rt: &HostRuntime, name: &str, buf: &mut [u8]) -> Reading
-    ensures { AtMost (length buf.new) result }
+// Reads a file's bytes. "A missing file reads as empty"; one that cannot be opened for another reason cannot be read.
+fn load(rt: &HostRuntime, name: &'static str, buf: &mut [u8]) -> Result<usize, Fault>
+    ensures { IfOk result (λ n. n ≤ length buf.new) }
 {
     match File::open(rt, name) {
-        Ok(mut file) => read_all(&mut file, buf),
+        Ok(mut file) => read_all(&mut file, buf).map_err(|_| Fault::Unread(name)),
         Err(fault) => {
             if fault.kind() == ErrorKind::NotFound {
-                return Reading::Bytes(0);
+                return Ok(0);
             }
-            Reading::Failed
+            Err(Fault::Unread(name))
         }
     }
 }
 
-// Says on standard error what cannot be done with what.
-fn complain(rt: &HostRuntime, what: &str, fault: &str) {
-    let _ = eprintln!(rt; "tvrun: {what}: cannot be {fault}");
-}
-
-// A file's bytes; where it cannot be read, it is named on standard error.
-fn load(rt: &HostRuntime, name: &str, buf: &mut [u8]) -> Reading
-    ensures { AtMost (length buf.new) result }
-{
-    let reading = read_file(rt, name, buf);
-    let Reading::Bytes(n) = reading else {
-        complain(rt, name, "read");
-        return Reading::Failed;
-    };
-    Reading::Bytes(n)
-}
-
-// Prints the answer of the run, from what was read of the three files.
-fn print(
-    rt: &HostRuntime,
-    problem: &[u8; PROBLEM_ROOM],
-    p: usize,
-    start: &[u8; WORDS_ROOM],
-    s: usize,
-    tape: &[u8; WORDS_ROOM],
-    t: usize,
-) {
+// Prints the answer of the run of the three files.
+fn run(rt: &HostRuntime) -> Result<(), Fault> {
+    let mut problem = [0u8; PROBLEM_ROOM];
+    let p = load(rt, "problem.tbv", &mut problem)?;
+    let mut start = [0u8; WORDS_ROOM];
+    let s = load(rt, "start.bin", &mut start)?;
+    let mut tape = [0u8; WORDS_ROOM];
+    let t = load(rt, "tape.bin", &mut tape)?;
     let mut out = [0u8; TEXT_ROOM];
-    let n = files::output(problem, p, start, s, tape, t, &mut out);
-    if io::writer(rt).write_all(&out[..n]).is_err() {
-        complain(rt, "standard output", "written");
-    }
+    let n = files::output(&problem, p, &start, s, &tape, t, &mut out);
+    io::writer(rt)
+        .write_all(&out[..n])
+        .map_err(|_| Fault::Unwritten)
 }
 
 fn main(rt: HostRuntime) {
-    let mut problem = [0u8; PROBLEM_ROOM];
-    let Reading::Bytes(p) = load(&rt, "problem.tbv", &mut problem) else {
-        return;
-    };
-    let mut start = [0u8; WORDS_ROOM];
-    let Reading::Bytes(s) = load(&rt, "start.bin", &mut start) else {
-        return;
-    };
-    let mut tape = [0u8; WORDS_ROOM];
-    let Reading::Bytes(t) = load(&rt, "tape.bin", &mut tape) else {
-        return;
-    };
-    print(&rt, &problem, p, &start, s, &tape, t);
+    if let Err(fault) = run(&rt) {
+        let _ = eprintln!(rt; "tvrun: {fault}");
+    }
 }

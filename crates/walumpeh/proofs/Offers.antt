@@ -156,9 +156,6 @@ module _ (S : Spot) where
       → Decides (Offered S i t) (b && (ltb r.operands r.fields || eqb S.low 0) && ltb i r.operands && c)
   shaped_law i t r h e p b c q s = rw e (shaped_here i t h (rw e at p) b c (q ∙ ap rule_test e) s)
 
-  pub offered_slots : (i t : ℕ) (r : Shape) → r ≡ shape_of S.kind → Offered S i t → Slots S r.operands
-  offered_slots i t r e o = rw e (record { used = o.asked.fair.slots; unused = o.unused })
-
   pub offered_headed : (i t : ℕ) → Offered S i t → Headed S
   offered_headed i t o =
       let f = o.asked.fair in

@@ -1,6 +1,5 @@
 -- What the picks of the C interface answer, as numbers.
-use Rattle.std.specs.Prelude.{◌≡◌, List, ℕ, zero, suc, ◌+◌, ◌%◌, ◌^◌, ◌<◌, length, get_or, set}
-use Rattle.words.specs.declared.found.Found.TheVariants.{At, Nothing}
+use Rattle.std.specs.Prelude.{◌≡◌, List, ℕ, zero, suc, ◌+◌, ◌%◌, ◌^◌, ◌<◌, length, get_or, set, None, Some}
 use Rattle.words.specs.Pick.{Picked}
 use Rattle.picking.specs.declared.spot.Three.{Three}
 use Rattle.picking.specs.declared.spot.Spot.{Spot}
@@ -39,5 +38,5 @@ pub data EssentialCode (S : Spot) (i t : ℕ) : ℕ → Type 0 where
 pub data PickCode (S : Spot) (i t p which : ℕ) (out : List ℕ) : List ℕ → ℕ → Type 0 where
   no_place : length out ≡ 0 → PickCode S i t p which out out 2
   refused : 0 < length out → (Offered S i t → ⊥) → PickCode S i t p which out out 2
-  nothing : 0 < length out → Offered S i t → Picked (SetOf which S t i) (p % 2 ^ at S.widths i) Nothing → PickCode S i t p which out out 0
-  found : {v : ℕ} → 0 < length out → Offered S i t → Picked (SetOf which S t i) (p % 2 ^ at S.widths i) (At v) → PickCode S i t p which out (set out 0 v) 1
+  nothing : 0 < length out → Offered S i t → Picked (SetOf which S t i) (p % 2 ^ at S.widths i) None → PickCode S i t p which out out 0
+  found : {v : ℕ} → 0 < length out → Offered S i t → Picked (SetOf which S t i) (p % 2 ^ at S.widths i) (Some v) → PickCode S i t p which out (set out 0 v) 1

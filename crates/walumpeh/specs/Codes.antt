@@ -1,12 +1,10 @@
 -- What every call but the two picks answers, as a number: 0 where nothing is refused, else the refusal's number + 256 x its place.
 use Rattle.std.specs.Prelude.{ℕ, ◌-◌, ◌^◌, min}
-use Rattle.problem.specs.declared.Checked.{Checked}
-use Rattle.problem.specs.Refusals.{number_of as checked_number, place_of as checked_place}
+use Rattle.problem.specs.Refusals.{Checked, number_of as checked_number, place_of as checked_place}
 use Rattle.search.specs.Answers.{refusal_code}
 use Rattle.models.specs.declared.Judged.{Judged}
 use Rattle.models.specs.Answers.{number_of as judged_number, place_of as judged_place}
-use Rattle.btor2.specs.declared.Converted.{Converted}
-use Rattle.btor2.specs.Answer.{number_of as converted_number, line_of}
+use Rattle.btor2.specs.Answer.{Converted, number_of as converted_number, line_of}
 
 -- of the problem check's answer (a run's is `outcome_code` of `search`)
 abbrev pub checked_code : Checked → ℕ

@@ -1,7 +1,6 @@
 -- What `convert` answers through the C interface, as numbers.
 use Rattle.std.specs.Prelude.{List, ℕ, ◌≤◌, ◌<◌, length, set}
-use Rattle.btor2.specs.declared.Converted.{Converted}
-use Rattle.btor2.specs.Answer.{Converts, length_of}
+use Rattle.btor2.specs.Answer.{Converted, Converts, length_of}
 use Rattle.walumpeh.specs.Codes.{converted_code, too_short}
 
 -- a call with the text, the bytes lent for the problem and the places out: both afterwards, and the number. The bytes are those of the

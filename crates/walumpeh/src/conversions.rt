@@ -10,10 +10,7 @@ use btor2::Converted;
 fn length_number(answer: Converted) -> u64
     ensures { result ≡ length_of answer }
 {
-    match answer {
-        Converted::Done(length) => length as u64,
-        Converted::Refused(_, _) => 0,
-    }
+    answer.unwrap_or(0) as u64
 }
 
 // The refusal's number + 256 times its line, 0 where nothing is refused; problem takes the bytes and out how many they are. 255 where
@@ -22,7 +19,7 @@ fn length_number(answer: Converted) -> u64
 pub extern "C" fn wal_btor2(text: &[u8], problem: &mut [u8], out: &mut [u64]) -> u64
     ensures { ConversionCode text.now problem.old out.old problem.new out.new result }
 {
-    if out.len() < 1 {
+    if out.is_empty() {
         return TOO_SHORT;
     }
     let answer = btor2::convert(text, problem);

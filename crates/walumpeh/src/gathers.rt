@@ -2,10 +2,12 @@
 ghost use Rattle.walumpeh.specs.Gathers.{GatherCode};
 
 use crate::codes::{TOO_SHORT, checked_code};
+use batches::ANSWER_WORDS;
 
 // The refusal's number + 256 times its place, 0 where nothing is refused; out takes how many solutions are kept, how many models are
 // repeats and how many are neither, all 0 where refused. 255 where out has fewer than three places, or answers fewer than six for
-// each start: then nothing is done.
+// each start: then nothing is done. (`as u64`, here and beside a line or a length: no `From` takes a usize into it.)
+// (Its parameters are those of the C interface.)
 #[unsafe(no_mangle)]
 pub extern "C" fn wal_gather(
     problem: &[u8],
@@ -24,7 +26,7 @@ pub extern "C" fn wal_gather(
     if out.len() < 3 {
         return TOO_SHORT;
     }
-    if ((answers.len() / 6) as u64) < starts {
+    if ((answers.len() / ANSWER_WORDS) as u64) < starts {
         return TOO_SHORT;
     }
     let gathered = frames::gather(

@@ -10,11 +10,7 @@ use models::Judged;
 fn yes_number(said: Judged) -> u64
     ensures { result ≡ yes_of said }
 {
-    match said {
-        Judged::Yes => 1,
-        Judged::No(_) => 0,
-        Judged::Refused(_) => 0,
-    }
+    u64::from(matches!(said, Judged::Yes))
 }
 
 // The first root that is 0, by its position; 0 where there is none.
@@ -22,9 +18,8 @@ fn root_number(said: Judged) -> u64
     ensures { result ≡ root_of said }
 {
     match said {
-        Judged::Yes => 0,
-        Judged::No(root) => root as u64,
-        Judged::Refused(_) => 0,
+        Judged::No(root) => u64::from(root),
+        Judged::Yes | Judged::Refused(_) => 0,
     }
 }
 

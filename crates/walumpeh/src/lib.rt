@@ -3,6 +3,7 @@
 // Nothing here trusts its caller: a word past the end of a slice reads as 0, and a node that no accepted problem has is refused.
 #![tactic(auto)]
 
+mod batch;
 mod checks;
 mod codes;
 mod conversions;
@@ -13,4 +14,3 @@ mod needs;
 mod offered;
 mod picks;
 mod runs;
-mod starts;

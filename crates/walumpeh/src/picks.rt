@@ -1,18 +1,18 @@
 // Picks and essential positions of a single node, from numbers.
 ghost use Rattle.std.specs.Prelude.{◌≡◌, ◌%◌, ◌^◌, ◌≤◌, get_or};
 ghost use Rattle.words.specs.Pick.{Picked};
-ghost use Rattle.picking.specs.Spot.{at, Asked};
+ghost use Rattle.picking.specs.Spot.{at};
 ghost use Rattle.walumpeh.specs.Calls.{SetOf, three_from, spot_from, PickCode, EssentialCode};
 
-use crate::offered::offered;
+use crate::offered::{Question, offered};
 use picking::{Spot, Three};
-use words::Found;
 
 // The word at a place, and 0 past the end.
+// (One line of the library, as `byte_at` is of bytes: one for both would be no plainer.)
 fn word(s: &[u64], k: usize) -> u64
     ensures { result ≡ get_or s.now k 0 }
 {
-    if k < s.len() { s[k] } else { 0 }
+    s.get(k).copied().unwrap_or(0)
 }
 
 // Three words from a place on.
@@ -42,18 +42,19 @@ fn spot(kind: u8, width: u32, low: u32, node: &[u64]) -> Spot
     }
 }
 
-// The pick from the set that is asked for.
-fn picked(s: Spot, position: u32, target: u64, proposal: u64, which: u8) -> Found
-    requires { Asked s position target }
-    ensures { Picked (SetOf which s target position) (proposal % 2 ^ at s.widths position) result }
+// The pick from the set that is asked for. C tells it by a number, so `which` is none of an enum.
+fn picked(q: &Question, proposal: u64, which: u8) -> Option<u64>
+    ensures { Picked (SetOf which q.now.spot q.now.target q.now.position) (proposal % 2 ^ at q.now.spot.widths q.now.position) result }
 {
     if which == 0 {
-        return picking::pick_inverse(s, position, target, proposal);
+        picking::pick_inverse(q.spot, q.position, q.target, proposal)
+    } else {
+        picking::pick_consistent(q.spot, q.position, q.target, proposal)
     }
-    picking::pick_consistent(s, position, target, proposal)
 }
 
 // 1 where the position is essential, 0 where it is not, 2 where no accepted problem has such a node.
+// (Its parameters are those of the C interface.)
 #[unsafe(no_mangle)]
 pub extern "C" fn wal_essential(
     kind: u8,
@@ -65,15 +66,15 @@ pub extern "C" fn wal_essential(
 ) -> u8
     ensures { EssentialCode (spot_from kind width low node.now) position target result }
 {
-    let s = spot(kind, width, low, node);
-    if offered(s, position, target) {
-        return essentials::essential(s, position, target) as u8;
-    }
-    2
+    let Some(q) = offered(spot(kind, width, low, node), position, target) else {
+        return 2;
+    };
+    u8::from(essentials::essential(q.spot, q.position, q.target))
 }
 
 // The pick from the inverse set (which is 0) or the consistent set: 1 with the value in out's first place, 0 where the set
 // is empty, 2 where no accepted problem has such a node or out has no place.
+// (Its parameters are those of the C interface.)
 #[unsafe(no_mangle)]
 pub extern "C" fn wal_pick(
     kind: u8,
@@ -88,17 +89,15 @@ pub extern "C" fn wal_pick(
 ) -> u8
     ensures { PickCode (spot_from kind width low node.now) position target proposal which out.old out.new result }
 {
-    let s = spot(kind, width, low, node);
-    if out.len() == 0 {
+    if out.is_empty() {
         return 2;
     }
-    if offered(s, position, target) {
-        let found = picked(s, position, target, proposal, which);
-        let Found::At(v) = found else {
-            return 0;
-        };
-        out[0] = v;
-        return 1;
-    }
-    2
+    let Some(q) = offered(spot(kind, width, low, node), position, target) else {
+        return 2;
+    };
+    let Some(v) = picked(&q, proposal, which) else {
+        return 0;
+    };
+    out[0] = v;
+    1
 }

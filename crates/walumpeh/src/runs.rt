@@ -5,7 +5,7 @@ ghost use Rattle.walumpeh.specs.Runs.{counted, reported, RunCode};
 use crate::codes::TOO_SHORT;
 use search::{Answer, outcome_code, verdict_code};
 
-// The verdict and the counts, stored in the first places of out.
+// The verdict and the counts, stored in the first places of out: one by one, as `reported` lists them.
 fn report(a: Answer, out: &mut [u64])
     requires { counted ≤ length out.old }
     ensures { out.new ≡ reported out.old a }

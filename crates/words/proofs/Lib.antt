@@ -1,3 +1,2 @@
 -- Laws that only the proofs of this crate cite.
 pub mod First
-pub mod Halves

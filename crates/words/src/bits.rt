@@ -13,6 +13,7 @@ pub(crate) fn low_bits(x: u64, n: u32) -> u64
 }
 
 // The n low bits of x, also where that is all of them.
+// (A count of bits is a number with its bounds in a clause, here and in the crates above: a type would be made anew at each call.)
 pub fn cut(x: u64, n: u32) -> u64
     requires { n ≤ 64 }
     ensures { result ≡ x % 2 ^ n }
@@ -44,7 +45,7 @@ pub fn top_bit(x: u64) -> u32
     requires { 0 < x }
     ensures { Top 64 x result }
 {
-    63 - u64::leading_zeros(x)
+    63 - x.leading_zeros()
 }
 
 // The place of the lowest set bit.
@@ -52,7 +53,7 @@ pub fn low_bit(x: u64) -> u32
     requires { 0 < x }
     ensures { Tail 64 x result }
 {
-    u64::trailing_zeros(x)
+    x.trailing_zeros()
 }
 
 // x with its n low bits replaced by c.

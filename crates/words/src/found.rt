@@ -1,22 +1,16 @@
-// What a search for a value finds.
+// What a search for a value answers: the value found, or none.
 ghost use Rattle.std.specs.Prelude.{◌≡◌};
 ghost use Rattle.words.specs.inner.Words.{lesser};
 
-#[derive(Clone, Copy)]
-pub enum Found {
-    At(u64),
-    Nothing,
-}
-
 // The lesser of two answers.
-pub fn lesser_of(a: Found, b: Found) -> Found
+pub fn lesser_of(a: Option<u64>, b: Option<u64>) -> Option<u64>
     ensures { result ≡ lesser a b }
 {
-    let Found::At(u) = a else {
+    let Some(u) = a else {
         return b;
     };
-    let Found::At(v) = b else {
-        return Found::At(u);
+    let Some(v) = b else {
+        return a;
     };
-    if u < v { Found::At(u) } else { Found::At(v) }
+    Some(u.min(v))
 }

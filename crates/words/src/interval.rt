@@ -1,40 +1,32 @@
 // Values that agree with a ternary word and lie in an interval least..=most.
 ghost use Rattle.std.specs.Prelude.{◌≡◌, max};
-ghost use Rattle.words.specs.Agree.{Within, Agrees};
+ghost use Rattle.words.specs.Agree.{Agrees};
 ghost use Rattle.words.specs.Pick.{FirstFrom, Picked, Between};
 
-use crate::found::Found;
-use crate::ternary::first_agreeing;
+use crate::ternary::{Ternary, first_agreeing};
 
-// The greater of two numbers.
+// The greater of two numbers, under the name by which docs/CONTRACTS.md promises it.
 pub fn later(a: u64, b: u64) -> u64
     ensures { result ≡ max a b }
 {
-    if a < b { b } else { a }
+    a.max(b)
 }
 
-// The least value from p on that agrees with lo, hi and lies in least..=most.
-pub fn first_between(lo: u64, hi: u64, least: u64, most: u64, p: u64) -> Found
-    requires { Within lo hi }
-    ensures { FirstFrom (Between (Agrees lo hi) least most) p result }
+// The least value from p on that agrees with the word and lies in least..=most.
+pub fn first_between(word: Ternary, least: u64, most: u64, p: u64) -> Option<u64>
+    ensures { FirstFrom (Between (Agrees word.lo word.hi) least most) p result }
 {
-    let Found::At(v) = first_agreeing(lo, hi, later(least, p)) else {
-        return Found::Nothing;
-    };
-    if v <= most {
-        Found::At(v)
-    } else {
-        Found::Nothing
-    }
+    let v = first_agreeing(word, least.max(p))?;
+    if v <= most { Some(v) } else { None }
 }
 
 // The pick among these: where there is none from p on, the least of all.
-pub fn pick_between(lo: u64, hi: u64, least: u64, most: u64, p: u64) -> Found
-    requires { Within lo hi }
-    ensures { Picked (Between (Agrees lo hi) least most) p result }
+// (By let-else, as document 01 has a pick's answer taken apart.)
+pub fn pick_between(word: Ternary, least: u64, most: u64, p: u64) -> Option<u64>
+    ensures { Picked (Between (Agrees word.lo word.hi) least most) p result }
 {
-    let Found::At(v) = first_between(lo, hi, least, most, p) else {
-        return first_between(lo, hi, least, most, 0);
+    let Some(v) = first_between(word, least, most, p) else {
+        return first_between(word, least, most, 0);
     };
-    Found::At(v)
+    Some(v)
 }

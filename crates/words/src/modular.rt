@@ -2,24 +2,19 @@
 ghost use Rattle.std.specs.Prelude.{◌≡◌, ℕ, ◌+◌, ◌*◌, ◌%◌, ◌^◌, ◌<◌, ◌≤◌};
 ghost use Rattle.words.specs.inner.Words.{Inverse, WordInverse};
 
-// a * b, modulo 2^64, by halves of 32 bits whose products fit.
+// a * b, modulo 2^64.
 pub fn wrapping_mul(a: u64, b: u64) -> u64
     ensures { result ≡ a * b % 2 ^ 64 }
 {
-    let a0 = a & 0xffff_ffff;
-    let a1 = a >> 32;
-    let b0 = b & 0xffff_ffff;
-    let b1 = b >> 32;
-    let mid = std::num::wrapping_add_u64(a1 * b0, a0 * b1);
-    std::num::wrapping_add_u64(a0 * b0, mid << 32)
+    a.wrapping_mul(b)
 }
 
 // Newton's step: from an inverse of a to k bits, one to 2k bits.
 fn newton(a: u64, x: u64) -> u64
     ensures { (k : ℕ) → 0 < k → k + k ≤ 64 → Inverse k a x → Inverse (k + k) a result }
 {
-    let y = wrapping_mul(a, x);
-    wrapping_mul(x, std::num::wrapping_sub_u64(2, y))
+    let y = a.wrapping_mul(x);
+    x.wrapping_mul(2u64.wrapping_sub(y))
 }
 
 // The word that an odd a is to be multiplied by to give 1, modulo 2^64: 1 is an inverse of a to one

@@ -1,9 +1,8 @@
 -- What the inner functions of a call with many starts ask and answer, in terms of the definitions. (Not needed to read what it
 -- promises.)
 use Rattle.std.specs.Prelude.{◌≡◌, List, ℕ, ◌+◌, ◌*◌, ◌≤◌, length, take}
-use Rattle.problem.specs.declared.Checked.TheVariants.{Accepted}
 use Rattle.problem.specs.Layout.{node_count}
-use Rattle.problem.specs.Refusals.{checked}
+use Rattle.problem.specs.Refusals.{Accepted, checked}
 use Rattle.search.specs.declared.Answer.{Answer}
 use Rattle.search.specs.Answers.{answer_words, told}
 use Rattle.search.specs.Call.{Called}

@@ -1,7 +1,7 @@
 -- Laws of a call with many starts: how the starts follow one another, and that each stays on its own places.
-use Rattle.std.specs.Prelude.{◌≡◌, List, ℕ, ◌+◌, ◌*◌, ◌≤◌, ◌<◌, length, get_or}
+use Rattle.std.specs.Prelude.{◌≡◌, List, ℕ, ◌+◌, ◌≤◌, ◌<◌, length, get_or}
 use Rattle.std.proofs.Math.Path.{refl}
-use Rattle.std.proofs.Common.{sym, ap, ◌∙◌, arith}
+use Rattle.std.proofs.Common.{◌∙◌, arith}
 use Rattle.std.proofs.Math.Decide.{dec_lt}
 use Rattle.problem.specs.Layout.{node_count}
 use Rattle.search.specs.declared.Answer.{Answer}
@@ -9,13 +9,13 @@ use Rattle.search.specs.Answers.{answer_words, told}
 use Rattle.nodes.specs.Problem.{problem}
 use Rattle.nodes.specs.laws.Good.{good_of}
 use Rattle.search.specs.Call.{Called, Called.refuses, Called.runs}
-use Rattle.batches.specs.Batch.{part, sum, places, stretch, Start, Starts}
+use Rattle.batches.specs.Batch.{sum, places, stretch, Start}
 use Rattle.search.specs.inner.Run.{Lent}
 use Rattle.batches.specs.inner.Batch.{Own, OneMore, Made}
 use Rattle.search.specs.promises.Accepted.{accepted_start}
 use Rattle.batches.specs.promises.Accepted.{Enough}
 use Rattle.search.specs.laws.Runs.{whole_kept}
-use Rattle.batches.specs.laws.Parts.{laid, part_length, part_inside, laid_length, laid_here, laid_below, laid_beyond, part_from, sum_more, sum_most}
+use Rattle.batches.specs.laws.Parts.{part_length, part_inside, laid_length, laid_here, laid_below, laid_beyond, part_from, sum_more, sum_most}
 
 -- a call keeps the number of places
 pub called_long : {s start ws : List ℕ} {B : ℕ} {out : List ℕ} {a : Answer} → Called s start ws B out a → length out ≡ length start

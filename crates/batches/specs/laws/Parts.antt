@@ -1,7 +1,7 @@
 -- Laws of the k-th w places of a list: what a store of one part leaves of the others; and of sums of a list's first numbers.
-use Rattle.std.specs.Prelude.{◌≡◌, refl, List, [], ◌∷◌, ◌++◌, ℕ, zero, suc, ◌+◌, ◌*◌, ◌≤◌, ◌<◌, length, get_or, take, drop}
+use Rattle.std.specs.Prelude.{◌≡◌, List, [], ◌∷◌, ◌++◌, ℕ, zero, suc, ◌+◌, ◌*◌, ◌≤◌, ◌<◌, length, get_or, take, drop}
 use Rattle.std.proofs.Common.{sym, ap, ap₂, ◌∙◌, suc-add, zero-add, zero-mul, suc-mul, mul-le-mul_right, lt-suc_self, add-one, arith, length-append, length-take, length-drop, take-append-drop, length-take-le, take_at, drop_at, take-take, drop-drop, take-add}
-use Rattle.std.proofs.Math.Seq.{take-nil, drop-nil}
+use Rattle.std.proofs.Math.Seq.{take-nil}
 use Rattle.std.proofs.lemmas.List.{take-append-le}
 use Rattle.batches.specs.Batch.{part, sum}
 

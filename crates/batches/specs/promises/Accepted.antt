@@ -1,9 +1,8 @@
 -- Refusals 17 to 19 as facts: a call with many starts is accepted exactly if its problem is and what is lent is enough.
 use Rattle.std.specs.Prelude.{◌≡◌, ◌↔◌, List, ℕ, ◌*◌, ◌≤◌, length}
 use Rattle.std.proofs.Common.{◌∙◌}
-use Rattle.problem.specs.declared.Checked.TheVariants.{Accepted}
 use Rattle.problem.specs.Layout.{node_count}
-use Rattle.problem.specs.Refusals.{checked}
+use Rattle.problem.specs.Refusals.{Accepted, checked}
 use Rattle.problem.specs.laws.Tests.{lt_no, eq_yes, not_no, or_no}
 use Rattle.problem.specs.laws.First.{then_left, then_right, then_accepted}
 use Rattle.search.specs.Answers.{answer_words}

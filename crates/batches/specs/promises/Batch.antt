@@ -1,18 +1,16 @@
 -- What is promised of `batch`: the contract settles the answer and every place; each start's answer and values are those of `run` on
 -- it alone, whatever the other starts do; and a start is refused by 15 alone.
-use Rattle.std.specs.Prelude.{◌≡◌, refl, Bool, true, false, cond, ◌&&◌, List, [], ℕ, ◌<◌, eqb, get_or, drop}
-use Rattle.std.proofs.Common.{sym, ap, ◌∙◌, subst, arith}
-use Rattle.problem.specs.declared.Checked.{Checked}
-use Rattle.problem.specs.declared.Checked.TheVariants.{Accepted, Refused}
+use Rattle.std.specs.Prelude.{Err as Refused, ◌≡◌, refl, Bool, true, false, cond, ◌&&◌, List, ℕ, ◌<◌, eqb, get_or}
+use Rattle.std.proofs.Common.{sym, ap, ◌∙◌, subst}
 use Rattle.problem.specs.declared.Refusal.{Refusal}
 use Rattle.problem.specs.Layout.{node_count, node_at}
-use Rattle.problem.specs.Refusals.{refusal, first_of, first_below}
+use Rattle.problem.specs.Refusals.{Checked, Accepted, refusal, first_of, first_below}
 use Rattle.problem.specs.laws.First.{refused_not, first_below_each}
 use Rattle.search.specs.declared.Outcome.{Outcome}
 use Rattle.search.specs.declared.Answer.{Answer}
 use Rattle.search.specs.Answers.{answer_words, told}
-use Rattle.search.specs.Call.{disagrees, start_fault, refusals, Called, Called.refuses, Called.runs}
-use Rattle.batches.specs.Batch.{part, batch_refusals, places, stretch, Start, Starts, Batch, Batch.refuses as turned, Batch.runs as ran}
+use Rattle.search.specs.Call.{disagrees, start_fault, Called, Called.refuses, Called.runs}
+use Rattle.batches.specs.Batch.{part, batch_refusals, places, stretch, Starts, Batch, Batch.refuses as turned, Batch.runs as ran}
 use Rattle.batches.specs.promises.Accepted.{Enough, accepted_batch}
 use Rattle.search.specs.promises.Demands.{clash, same_outcome, demand_1}
 use Rattle.search.specs.promises.Determined.{not_both, same_refusal, called_unique}

@@ -6,20 +6,11 @@ use Rattle.boxes.specs.declared.Box.{Box}
 use Rattle.boxes.proofs.BoxLaws.{one_picked}
 use Rattle.boxes.proofs.pick_in.Goals as goal
 
-pub pick_in_union-requires : goal.pick_in_union-requires
-pick_in_union-requires c = (rw c.in-Many.is at c.requires.0, c.requires.1)
-
-pub returns-in-Empty : goal.returns-in-Empty
-returns-in-Empty c = rw c.in-Empty.is (λ v m. m.has)
-
 pub returns-in-Only : goal.returns-in-Only
 returns-in-Only c = rw c.in-Only.is (c.pick_only.ensures c.args.p)
 
 pub returns-in-One : goal.returns-in-One
 returns-in-One c =
     rw c.in-One.is
-    (one_picked _ c.args.lo c.args.hi c.args.p c.pick_in_box.result
+    (one_picked _ c.args.pair.lo c.args.pair.hi c.args.p c.pick_in_box.result
     (subst (λ (b : Box). Picked (In b) c.args.p c.pick_in_box.result) c.meet.ensures c.pick_in_box.ensures))
-
-pub returns-in-Many : goal.returns-in-Many
-returns-in-Many c = rw c.in-Many.is c.pick_in_union.ensures

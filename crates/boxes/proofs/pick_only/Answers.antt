@@ -1,16 +1,11 @@
--- By whether the value is there and agrees.
-use mathlib.Core.Bool.{◌&&◌}
-use Rattle.words.specs.laws.Decides.{decides_yes, decides_no, decides_and}
-use Rattle.boxes.proofs.BoxLaws.{only_at, only_none, decides_is}
+-- Where the value is there and agrees it is the pick.
+use Rattle.std.specs.Prelude.{◌&&◌}
+use Rattle.words.specs.laws.Decides.{decides_yes, decides_and}
+use Rattle.boxes.proofs.BoxLaws.{only_at, decides_is}
 use Rattle.boxes.proofs.pick_only.Goals as goal
 
 pub returns-then-agrees-there : goal.returns-then-agrees-there
 returns-then-agrees-there c =
     let d = decides_and _ _ c.agrees.result c.args.there c.agrees.ensures (decides_is c.args.there) in
     let y = decides_yes _ (c.agrees.result && c.args.there) d c.if-agrees-there.true in
-    λ p. only_at c.args.c c.args.there c.args.lo c.args.hi y.0 y.1 p
-
-pub returns : goal.returns
-returns c =
-    let d = decides_and _ _ c.agrees.result c.args.there c.agrees.ensures (decides_is c.args.there) in
-    λ p. only_none c.args.c c.args.there c.args.lo c.args.hi (decides_no _ (c.agrees.result && c.args.there) d c.if-agrees-there.false)
+    only_at c.args.c c.args.there c.args.lo c.args.hi y.0 y.1

@@ -123,8 +123,8 @@ pub record SomeOf (A Q : ℕ → Type 0) : Type 0 where
   pub gives : Q by
 
 -- a value of w bits, or one that agrees with l, h, of which Q holds
-abbrev pub Some : ℕ → (ℕ → Type 0) → Type 0
-Some w Q = SomeOf (λ s. s < 2 ^ w) Q
+abbrev pub SomeWord : ℕ → (ℕ → Type 0) → Type 0
+SomeWord w Q = SomeOf (λ s. s < 2 ^ w) Q
 
 abbrev pub SomeAgreeing : ℕ → ℕ → (ℕ → Type 0) → Type 0
 SomeAgreeing l h Q = SomeOf (Agrees l h) Q

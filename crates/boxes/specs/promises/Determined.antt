@@ -1,7 +1,6 @@
 -- The contract of each public function determines its result: any two results that it allows are equal.
-use Rattle.std.specs.Prelude.{◌≡◌, Bool, ℕ}
+use Rattle.std.specs.Prelude.{◌≡◌, Bool, ℕ, Option}
 use Rattle.std.proofs.Common.{sym, ◌∙◌}
-use Rattle.words.specs.declared.found.Found.{Found}
 use Rattle.words.specs.Pick.{Picked}
 use Rattle.words.specs.laws.Pick.{picked_unique}
 use Rattle.boxes.specs.declared.Box.{Box}
@@ -30,8 +29,8 @@ pub mirror_determined : (b : Box) (w : ℕ) (r s : Box) → r ≡ mirrored w b �
 mirror_determined b w r s = equal
 
 -- ---- picks
-pub pick_only_determined : (c : ℕ) (there : Bool) (lo hi : ℕ) (r s : Found) → ((p : ℕ) → Picked (Chosen (Only c there) lo hi) p r) → ((p : ℕ) → Picked (Chosen (Only c there) lo hi) p s) → r ≡ s
+pub pick_only_determined : (c : ℕ) (there : Bool) (lo hi : ℕ) (r s : Option ℕ) → ((p : ℕ) → Picked (Chosen (Only c there) lo hi) p r) → ((p : ℕ) → Picked (Chosen (Only c there) lo hi) p s) → r ≡ s
 pick_only_determined c there lo hi r s f g = picked_unique (Chosen (Only c there) lo hi) 0 r s (f 0) (g 0)
 
-pub pick_in_determined : (S : Set) (lo hi p : ℕ) (r s : Found) → Picked (Chosen S lo hi) p r → Picked (Chosen S lo hi) p s → r ≡ s
+pub pick_in_determined : (S : Set) (lo hi p : ℕ) (r s : Option ℕ) → Picked (Chosen S lo hi) p r → Picked (Chosen S lo hi) p s → r ≡ s
 pick_in_determined S lo hi = picked_unique (Chosen S lo hi)

@@ -1,12 +1,11 @@
 -- What the fold over the lines answers.
-use Rattle.std.specs.Prelude.{◌≡◌, List, [], ◌∷◌, ◌++◌, ℕ, ◌+◌, ◌*◌, ◌≤◌, length, take}
-use Rattle.std.proofs.lemmas.List.Edits.{sets}
+use Rattle.std.specs.Prelude.{◌≡◌, List, ℕ, ◌*◌, ◌≤◌, length, take, Result, Ok, Err}
 use Rattle.btor2.specs.declared.take.Counts.{Counts}
-use Rattle.btor2.specs.declared.fold.Ended.{Ended}
-use Rattle.btor2.specs.declared.fold.Ended.TheVariants.{Done, Stopped}
+use Rattle.btor2.specs.declared.Refusal.{Refusal}
+use Rattle.lines.specs.Faults.{fault_number}
 use Rattle.lines.specs.Lines.{lines}
-use Rattle.btor2.specs.Conversion.{State, start, size, Outcome, converted, refused, convert_from}
-use Rattle.spelling.specs.Bytes.{little_endian, all_nodes, all_roots}
+use Rattle.btor2.specs.Conversion.{State, start, size, converted, refused, convert_from}
+use Rattle.spelling.specs.Bytes.{all_nodes}
 
 -- the arrays hold what a state does
 pub record Holds (room : ℕ) (σ : State) (bytes rooted : List ℕ) (n : Counts) : Type 0 where
@@ -18,10 +17,10 @@ pub record Holds (room : ℕ) (σ : State) (bytes rooted : List ℕ) (n : Counts
   pub roots_few : n.roots ≤ 256
   pub enough : 9 ≤ room → size σ ≤ room
 
-pub data Ends (room : ℕ) (text bytes rooted : List ℕ) : Ended → Type 0 where
+pub data Ends (room : ℕ) (text bytes rooted : List ℕ) : Result Counts Refusal → Type 0 where
   done :
       {n : Counts} (σ : State)
       → convert_from room start 1 (lines text) ≡ converted σ
       → Holds room σ bytes rooted n
-      → Ends room text bytes rooted (Done n)
-  stopped : {m k : ℕ} → convert_from room start 1 (lines text) ≡ refused m k → Ends room text bytes rooted (Stopped m k)
+      → Ends room text bytes rooted (Ok n)
+  stopped : {r : Refusal} → convert_from room start 1 (lines text) ≡ refused (fault_number r.fault) r.line → Ends room text bytes rooted (Err r)

@@ -1,6 +1,6 @@
 -- What code keeps while it folds over the lines, tied to the definition's state: counts, the bytes of the nodes so far, the ids of lines that
 -- made nodes with their nodes beside them, and the roots. Sorts and other names are in the text already read.
-use Rattle.std.specs.Prelude.{◌≡◌, Bool, true, cond, not, List, [], ◌∷◌, ◌++◌, ℕ, ◌+◌, ◌*◌, ◌^◌, ◌≤◌, ◌<◌, eqb, length, get_or, set}
+use Rattle.std.specs.Prelude.{◌≡◌, true, cond, not, List, ℕ, ◌+◌, ◌*◌, ◌^◌, ◌≤◌, ◌<◌, eqb, length, get_or, set, Option, Some, None}
 use Rattle.texts.specs.Numbers.{value_in}
 use Rattle.spelling.specs.declared.line.Operand.{Operand}
 use Rattle.lines.specs.Lines.{Token, token, tokens}
@@ -20,10 +20,10 @@ pub record Lower (ids : List ℕ) (names id r : ℕ) : Type 0 where
   pub under : (k : ℕ) → k < r → get_or ids k 0 < id
   pub over : (k : ℕ) → r ≤ k → k < names → id ≤ get_or ids k 0
 
--- the node beside an id, 1024 where the id is not there
-pub data Beside (ids places : List ℕ) (names id : ℕ) : ℕ → Type 0 where
-  there : (k : ℕ) → k < names → get_or ids k 0 ≡ id → Beside ids places names id (get_or places k 0)
-  nowhere : ((k : ℕ) → k < names → get_or ids k 0 ≡ id → ⊥) → Beside ids places names id 1024
+-- the node beside an id
+pub data Beside (ids places : List ℕ) (names id : ℕ) : Option ℕ → Type 0 where
+  there : (k : ℕ) → k < names → get_or ids k 0 ≡ id → Beside ids places names id (Some (get_or places k 0))
+  nowhere : ((k : ℕ) → k < names → get_or ids k 0 ≡ id → ⊥) → Beside ids places names id None
 
 -- ---- what ids stand for
 
@@ -63,10 +63,11 @@ pub record Seen (σ : State) (ls : List (List ℕ)) (names : ℕ) (bytes ids pla
   pub named : Named σ ls names ids places
   pub sorted : Sorted σ ls
   pub widths : (k : ℕ) → k < length σ.nodes → get_or bytes (24 * k + 1) 0 ≡ width_in σ.nodes k
+  pub rising : Rising ids names
 
--- the node that an id names, and the operand that a reference names; node 1024 where there is none
-unfoldable pub node_named : State → ℕ → ℕ
-node_named σ id = cond (known id σ.named) (at id σ.named) 1024
+-- the node that an id names, and the operand that a reference names, with node 1024 where there is none
+unfoldable pub node_named : State → ℕ → Option ℕ
+node_named σ id = cond (known id σ.named) (Some (at id σ.named)) None
 
 unfoldable pub looked_up : State → Ref → Operand
 looked_up σ r = cond (known r.line σ.named) (operand_of σ r) (record { negative = r.negative; node = 1024; width = 0 })

@@ -1,14 +1,15 @@
 -- What code keeps between two lines, tied to the definition's state, and what taking a line does to it.
-use Rattle.std.specs.Prelude.{◌≡◌, Bool, true, false, cond, not, ◌&&◌, ◌||◌, List, [], ◌∷◌, ◌++◌, ℕ, suc, ◌+◌, ◌*◌, ◌≤◌, ◌<◌, ltb, leb, eqb, length, get_or, take, set}
+use Rattle.std.specs.Prelude.{◌≡◌, Bool, true, false, cond, ◌||◌, List, [], ◌∷◌, ◌++◌, ℕ, ◌+◌, ◌*◌, ◌≤◌, ◌<◌, ltb, leb, eqb, length, get_or, take, set, Result, Ok, Err}
 use Rattle.std.proofs.lemmas.List.Edits.{sets}
+use Rattle.lines.specs.declared.fault.Fault.{Fault}
+use Rattle.lines.specs.declared.fault.Fault.TheVariants.{Id, Width, Room}
 use Rattle.lines.specs.declared.table.Makes.{Makes}
 use Rattle.lines.specs.declared.table.Makes.TheVariants.{Sort, Input, Value, Root}
 use Rattle.spelling.specs.declared.line.Operands.{Operands}
 use Rattle.spelling.specs.declared.line.Line.{Line}
 use Rattle.btor2.specs.declared.take.Counts.{Counts}
-use Rattle.btor2.specs.declared.take.Taken.{Taken}
-use Rattle.btor2.specs.declared.take.Taken.TheVariants.{Next, Fault}
-use Rattle.lines.specs.Lines.{lines, tokens}
+use Rattle.lines.specs.Faults.{fault_number}
+use Rattle.lines.specs.Lines.{tokens}
 use Rattle.lines.specs.Words.{shape, word_of}
 use Rattle.btor2.specs.Conversion.{State, line_fault, after_line}
 use Rattle.spelling.specs.Nodes.{is_root}
@@ -65,8 +66,8 @@ standing x n = standing_for x n.nodes (count_read x)
 abbrev pub roots_with : Line → Counts → List ℕ → ℕ
 roots_with x n rooted = roots_after (shape (word_of x.word)).makes (take n.roots rooted) n.roots (standing x n)
 
-pub data Placed (x : Line) (n : Counts) (room : ℕ) (bytes ids places rooted bytes' ids' places' rooted' : List ℕ) : Taken → Type 0 where
-  full : overfull room (n.nodes + count_read x) (roots_with x n rooted) ≡ true → Placed x n room bytes ids places rooted bytes' ids' places' rooted' (Fault 5)
+pub data Placed (x : Line) (n : Counts) (room : ℕ) (bytes ids places rooted bytes' ids' places' rooted' : List ℕ) : Result Counts Fault → Type 0 where
+  full : overfull room (n.nodes + count_read x) (roots_with x n rooted) ≡ true → Placed x n room bytes ids places rooted bytes' ids' places' rooted' (Err Room)
   put :
       {names : ℕ}
       → overfull room (n.nodes + count_read x) (roots_with x n rooted) ≡ false
@@ -74,17 +75,17 @@ pub data Placed (x : Line) (n : Counts) (room : ℕ) (bytes ids places rooted by
       → NamedIf (adds_name (shape (word_of x.word)).makes (count_read x) n.names) ids places n.names x.id (standing x n) ids' places' names
       → RootIf n.roots (roots_with x n rooted) (standing x n) rooted rooted'
       → Placed x n room bytes ids places rooted bytes' ids' places' rooted'
-      (Next (record { last = x.id; nodes = n.nodes + count_read x; roots = roots_with x n rooted; names = names }))
+      (Ok (record { last = x.id; nodes = n.nodes + count_read x; roots = roots_with x n rooted; names = names }))
 
 -- a line that is read: refusals 3 and 4, then what it adds
-pub data Settled (x : Line) (n : Counts) (room : ℕ) (bytes ids places rooted bytes' ids' places' rooted' : List ℕ) : Taken → Type 0 where
-  unknown : unknown_read x n.last ≡ true → Settled x n room bytes ids places rooted bytes' ids' places' rooted' (Fault 3)
+pub data Settled (x : Line) (n : Counts) (room : ℕ) (bytes ids places rooted bytes' ids' places' rooted' : List ℕ) : Result Counts Fault → Type 0 where
+  unknown : unknown_read x n.last ≡ true → Settled x n room bytes ids places rooted bytes' ids' places' rooted' (Err Id)
   misfits :
       unknown_read x n.last ≡ false
       → fits_read x ≡ false
-      → Settled x n room bytes ids places rooted bytes' ids' places' rooted' (Fault 4)
+      → Settled x n room bytes ids places rooted bytes' ids' places' rooted' (Err Width)
   placed :
-      {t : Taken}
+      {t : Result Counts Fault}
       → unknown_read x n.last ≡ false
       → fits_read x ≡ true
       → Placed x n room bytes ids places rooted bytes' ids' places' rooted' t
@@ -99,11 +100,14 @@ pub record Lengths (bytes ids places rooted : List ℕ) : Type 0 where
   pub places_long : length places ≡ 2048
   pub rooted_long : length rooted ≡ 256
 
--- the arrays beside them: sorts that are kept, and where the tokens of a line stand
-pub record Aside (sort_ids widths marks : List ℕ) : Type 0 where
-  pub sorts_long : length sort_ids ≡ 64
-  pub widths_long : length widths ≡ 64
-  pub marks_long : length marks ≡ 24
+-- no line has passed
+abbrev pub nothing : Counts
+nothing = record { last = 0; nodes = 0; roots = 0; names = 0 }
+
+-- an answer, with the counts that are then kept
+abbrev pub counted : {F : Type 0} → Result Unit F → Counts → Result Counts F
+counted (Ok u) n = Ok n
+counted (Err f) n = Err f
 
 -- what holds of the arrays and counts by themselves
 pub record Fits (n : Counts) (bytes ids places rooted : List ℕ) : Type 0 where
@@ -129,14 +133,13 @@ pub record Kept (room : ℕ) (σ : State) (ls : List (List ℕ)) (n : Counts) (b
   pub fits : Fits n bytes ids places rooted
 
 -- a line l taken
-pub data Stepped (room : ℕ) (σ : State) (ls : List (List ℕ)) (l bytes ids places rooted : List ℕ) : Taken → Type 0 where
+pub data Stepped (room : ℕ) (σ : State) (ls : List (List ℕ)) (l bytes ids places rooted : List ℕ) : Result Counts Fault → Type 0 where
   next :
       {n : Counts}
       → line_fault room σ (tokens l) ≡ 0
       → Kept room (after_line σ (tokens l)) (ls ++ l ∷ []) n bytes ids places rooted
-      → Stepped room σ ls l bytes ids places rooted (Next n)
+      → Stepped room σ ls l bytes ids places rooted (Ok n)
   fault :
-      {m : ℕ}
-      → line_fault room σ (tokens l) ≡ m
-      → (m ≡ 0 → ⊥)
-      → Stepped room σ ls l bytes ids places rooted (Fault m)
+      {f : Fault}
+      → line_fault room σ (tokens l) ≡ fault_number f
+      → Stepped room σ ls l bytes ids places rooted (Err f)

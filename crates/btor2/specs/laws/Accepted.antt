@@ -1,23 +1,19 @@
 -- That the search accepts the bytes of every state that lines lead to.
-use Rattle.std.specs.Prelude.{◌≡◌, refl, Bool, true, false, ◌&&◌, ◌||◌, List, [], ◌∷◌, ◌++◌, ℕ, zero, suc, ◌+◌, ◌-◌, ◌*◌, ◌^◌, ◌≤◌, ◌<◌, T, eqb, leb, length, get_or}
-use Rattle.std.proofs.Common.{sym, ◌∙◌, arith, pow_pos, pow_mono, eqb-true, leb-true}
+use Rattle.std.specs.Prelude.{◌≡◌, refl, Bool, true, false, ◌||◌, List, [], ◌∷◌, ℕ, zero, suc, ◌-◌, ◌^◌, ◌≤◌, ◌<◌, T, eqb, length, get_or}
+use Rattle.std.proofs.Common.{sym, ◌∙◌, arith, pow_mono, eqb-true}
 use Rattle.std.proofs.Math.Path.{ap}
-use Rattle.std.proofs.lemmas.Bool.{false≢true, eqb-false}
 use Rattle.std.specs.Int.Bits.{bit_and, and_self}
 use Rattle.std.proofs.lemmas.Nat.{and_le_l}
 use Rattle.std.proofs.Math.Pow.{ones_lt}
 use mir.Val.{has_key}
-use Rattle.words.specs.Agree.{Within}
-use Rattle.texts.specs.laws.Runs.{both_true}
 use Rattle.operators.specs.Table.{shape_of, row, RuleMet}
 use Rattle.operators.specs.declared.table.Rule.TheVariants.{Both, Equal}
 use Rattle.problem.specs.declared.layout.Node.{Node}
-use Rattle.problem.specs.declared.Checked.TheVariants.{Accepted}
-use Rattle.problem.specs.Layout.{node_count, root_count, node_at, width_at, root_at}
-use Rattle.problem.specs.Refusals.{checked}
-use Rattle.problem.specs.inner.Facts.{HeaderFacts, NodeFacts, Facts}
+use Rattle.problem.specs.Layout.{node_at, width_at, root_at}
+use Rattle.problem.specs.Refusals.{Accepted, checked}
+use Rattle.problem.specs.inner.Facts.{NodeFacts}
 use Rattle.problem.specs.laws.Facts.{facts_accepted}
-use Rattle.spelling.specs.Nodes.{operator, constant_node, variable_node, invert}
+use Rattle.spelling.specs.Nodes.{operator, invert}
 use Rattle.btor2.specs.Conversion.{State, width_in, bytes_of}
 use Rattle.btor2.specs.laws.Built.{is_both, is_test, Built, is_variable, is_a_constant, is_not, is_of_both, is_a_test, is_choice, is_sum, is_part, is_signs, AllBuilt}
 use Rattle.btor2.specs.laws.Fine.{AllRoots, Fine, distinct_apart}

@@ -1,5 +1,5 @@
 -- A line that passes and makes no node, though it is a value's, only gives another name; and another name makes no node.
-use Rattle.std.specs.Prelude.{◌≡◌, Bool, cond, not, ◌&&◌, ◌||◌, List, [], ◌∷◌, ℕ, suc, ◌+◌, ◌-◌, ◌<◌, T, ltb, get_or}
+use Rattle.std.specs.Prelude.{◌≡◌, Bool, cond, not, ◌&&◌, ◌||◌, List, [], ◌∷◌, ℕ, suc, ◌+◌, ◌<◌, T, ltb, get_or}
 use Rattle.std.proofs.Math.Path.{refl, ap}
 use Rattle.std.proofs.Common.{sym, ◌∙◌, arith, ltb→lt, length-append}
 use Rattle.std.proofs.Math.Bool.{true, false}
@@ -18,14 +18,14 @@ use Rattle.lines.specs.Words.{Word, number_of, word_of, row, shape}
 use Rattle.lines.specs.Format.{signed, unsigned, ref_of, refs_from, item_of, item}
 use Rattle.spelling.specs.Nodes.{own, invert, nots, placed}
 use Rattle.btor2.specs.Conversion.{State, at, known, operand_of, operands, new_nodes, node_for, any_unknown}
-use Rattle.spelling.specs.inner.Spelled.{form_of, kind_for, own_count}
+use Rattle.spelling.specs.inner.Spelled.{form_of, own_count}
 use Rattle.spelling.specs.laws.Rule.{own_form}
 use Rattle.spelling.specs.laws.Spell.{own_length}
 use Rattle.lines.specs.inner.Told.{is_alias}
 
 -- how many nodes of its own a keyword's line makes
 pub own_count_lem : (k : Word) (w n a b c p q v : ℕ) → length (own k w n a b c p q v) ≡ own_count (form_of k) p
-own_count_lem k w n a b c p q v = ap length (own_form k w n a b c p q v) ∙ own_length (form_of k) (kind_for k) w n a _ _ p q _
+own_count_lem k w n a b c p q v = ap length (own_form k w n a b c p q v) ∙ own_length (form_of k) w n a _ _ p q _
 
 none_of : (t : Bool) (n : ℕ) → cond t 0 (suc n) ≡ 0 → ◌≡◌ {A = ℕ} 0 0
 none_of t n e = refl
@@ -36,7 +36,7 @@ unfolding own_count
 count_zero form.Nothing p e = e
 count_zero form.Variable p e = e
 count_zero form.Constant p e = e
-count_zero form.Plain p e = e
+count_zero (form.Plain kind) p e = e
 count_zero form.Slice p e = e
 count_zero form.Or p e = e
 count_zero form.Sub p e = e

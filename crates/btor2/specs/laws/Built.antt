@@ -1,23 +1,21 @@
 -- The nodes that lines make, one after the other: each is of one of a few forms, its operands stand before it, and the widths fit.
-use Rattle.std.specs.Prelude.{◌≡◌, refl, Bool, cond, not, ◌&&◌, ◌||◌, ℕ, zero, suc, ◌+◌, ◌-◌, ◌^◌, ◌≤◌, ◌<◌, T, leb, get_or}
+use Rattle.std.specs.Prelude.{◌≡◌, refl, Bool, cond, ◌&&◌, ℕ, ◌+◌, ◌-◌, ◌^◌, ◌≤◌, ◌<◌, T, leb, get_or}
 use Rattle.std.proofs.Math.Path.{sym}
-use Rattle.std.proofs.Common.{ap, ◌∙◌, ⊎_elim, pow_pos, length-append, get_or-append-add}
+use Rattle.std.proofs.Common.{ap, ◌∙◌, ⊎_elim, pow_pos, length-append}
 use Rattle.std.proofs.Math.Bool.{true, false}
 use Rattle.std.proofs.lemmas.Bool.{false≢true}
-use mathlib.Core.List.{List, [], ◌∷◌, ◌++◌, append_assoc, append-nil}
+use mathlib.Core.List.{List, [], ◌∷◌, ◌++◌, append-nil}
 use native.Mathlib.Omega.{arith}
 use Rattle.std.proofs.Math.Dec.{eqb, ltb}
 use mir.Val.{has_key}
-use Rattle.std.proofs.Math.ListN.{length, get_or-append, get_or-eq_default}
+use Rattle.std.proofs.Math.ListN.{length, get_or-append}
 use Rattle.std.proofs.Math.Seq.{append_snoc, get_or-append_seam}
-use borrow.Author.Tests.{eqb-true, eqb-false, leb-true, ltb-true, ltb-false}
+use borrow.Author.Tests.{eqb-true, eqb-false, leb-true, ltb-true}
 use Rattle.words.specs.laws.Bits.{lt_or_ge}
-use Rattle.texts.specs.laws.Runs.{both_true}
 use Rattle.problem.specs.declared.layout.Node.{Node}
-use Rattle.spelling.specs.declared.line.Operand.{Operand}
-use Rattle.lines.specs.Words.{Word, sort, input, zeros, one, ones, const, constd, consth, inv, conj, disj, xor, add, sub, mul, sll, srl, sra, eq, neq, ult, slt, ite, concat, slice, uext, sext, constraint, other, shape}
+use Rattle.lines.specs.Words.{Word, shape}
 use Rattle.lines.specs.Format.{Constant}
-use Rattle.spelling.specs.Nodes.{operator, constant_node, variable_node, invert, fits, own, nots, placed}
+use Rattle.spelling.specs.Nodes.{operator, constant_node, variable_node, invert}
 use Rattle.btor2.specs.Conversion.{width_in}
 
 -- kinds whose two operands have the node's width, and kinds that compare

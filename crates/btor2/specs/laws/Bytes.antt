@@ -1,15 +1,15 @@
 -- The bytes of a state, read again by the problem's own layout: header, nodes and roots are those of the state.
-use Rattle.std.specs.Prelude.{◌≡◌, ℕ, zero, suc, ◌+◌, ◌*◌, ◌/◌, ◌%◌, ◌^◌, ◌≤◌, ◌<◌, take}
+use Rattle.std.specs.Prelude.{◌≡◌, ℕ, zero, suc, ◌+◌, ◌*◌, ◌/◌, ◌%◌, ◌≤◌, ◌<◌, take}
 use Rattle.std.proofs.Math.Path.{refl, sym}
-use Rattle.std.proofs.Common.{ap, ◌∙◌, length-append, take_at, get_or-drop}
+use Rattle.std.proofs.Common.{◌∙◌, length-append, take_at, get_or-drop}
 use mathlib.Core.List.{List, [], ◌∷◌, ◌++◌, append_assoc}
 use native.Mathlib.Omega.{arith}
 use Rattle.std.proofs.Math.ListN.{length, get_or, drop}
 use Rattle.std.proofs.Math.Seq.{drop-append-add, drop_at}
 use Rattle.problem.specs.declared.layout.Node.{Node}
-use Rattle.problem.specs.Layout.{le16, le32, le64, version, node_count, root_count, node_of, node_start, node_at, width_at, root_start, root_at, total_length}
+use Rattle.problem.specs.Layout.{le16, le32, le64, version, node_count, root_count, node_of, node_at, root_at}
 use Rattle.spelling.specs.Nodes.{invert}
-use Rattle.btor2.specs.Conversion.{State, width_in, bytes_of}
+use Rattle.btor2.specs.Conversion.{State, bytes_of}
 use Rattle.spelling.specs.Bytes.{little_endian, kind_bytes, field_bytes, pair_bytes, node_bytes, all_nodes, all_roots}
 use Rattle.spelling.specs.laws.Written.{node_long, all_long, roots_long}
 

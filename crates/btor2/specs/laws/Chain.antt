@@ -1,32 +1,24 @@
 -- That the nodes of a line that passes are built as they should, and so all nodes and roots of every state that lines lead to.
-use Rattle.std.specs.Prelude.{◌≡◌, refl, Bool, cond, not, ◌&&◌, ◌||◌, T, eqb, ltb, leb, get_or}
-use Rattle.std.proofs.Common.{sym, ap, ◌∙◌, ⊎_elim, arith, mod-lt, pow_pos, eqb-true, leb-true, ltb-true, ltb-false, eq-eqb, ne_eqb}
+use Rattle.std.specs.Prelude.{◌≡◌, refl, Bool, cond, not, ◌||◌, eqb, get_or}
+use Rattle.std.proofs.Common.{sym, ap, ◌∙◌, arith, pow_pos}
 use Rattle.std.proofs.Math.Bool.{true, false}
-use Rattle.std.proofs.lemmas.Bool.{false≢true, eqb-false, not-false}
-use mathlib.Core.List.{List, [], ◌∷◌, ◌++◌, append_assoc, append-nil}
-use Prim.Native.Nat.{ℕ, zero, suc, ◌+◌, ◌-◌, ◌%◌, ◌^◌, ◌≤◌, ◌<◌}
+use Rattle.std.proofs.lemmas.Bool.{false≢true, not-false}
+use mathlib.Core.List.{List, [], ◌∷◌, ◌++◌, append_assoc}
+use Prim.Native.Nat.{ℕ, zero, suc, ◌+◌, ◌^◌, ◌≤◌, ◌<◌}
 use Rattle.std.proofs.Math.Pow.{ones_lt, pow-lt}
-use Rattle.std.proofs.Math.ListN.{length, length-append, get_or-append}
+use Rattle.std.proofs.Math.ListN.{length, length-append}
 use Rattle.std.proofs.Math.Seq.{append_snoc, get_or-append_seam}
-use Rattle.texts.specs.laws.Runs.{both_true}
 use Rattle.problem.specs.declared.layout.Node.{Node}
 use Rattle.lines.specs.declared.table.Makes.{Makes}
 use Rattle.lines.specs.declared.table.Makes.TheVariants.{Sort, Input, Value, Root}
 use Rattle.spelling.specs.declared.forms.Rule.TheVariants as rule
-use Rattle.spelling.specs.declared.line.Operand.{Operand}
-use Rattle.lines.specs.Lines.{Token, token, tokens}
-use Rattle.lines.specs.Words.{Word, sort, input, zeros, one, ones, const, constd, consth, inv, conj, disj, xor, add, sub, mul, sll, srl, sra, eq, neq, ult, slt, ite, concat, slice, uext, sext, constraint, other, number_of, word_of, shape}
-use Rattle.lines.specs.Format.{Ref, Constant, is_constant, constant_of, unsigned, constant_place, ref_place, refs_from, Item, item_of, item}
-use Rattle.spelling.specs.Nodes.{operator, constant_node, variable_node, invert, constant_value, fits, own, nots, placed, is_root}
-use Rattle.btor2.specs.Conversion.{Table, State, start, known, at, width_in, operand_of, operands, width_of, any_unknown, sort_unknown, new_nodes, node_for, with_root, naming, added, after, line_fault, after_line}
-use Rattle.spelling.specs.inner.Spelled.{rule_of, constant_fits}
-use Rattle.btor2.specs.laws.Reached.{Reached, begin, more}
-use Rattle.spelling.specs.laws.Constant.{constant_below}
-use Rattle.btor2.specs.laws.Passed.{Formed, Passes, passes}
-use Rattle.btor2.specs.laws.Sound.{AllWide, wide_at, Sound, reached_sound, Role, makes_sort, makes_input, makes_a_value, makes_a_root, role}
-use Rattle.btor2.specs.laws.Read.{const_word, const_fits, base_some}
-use Rattle.btor2.specs.laws.Step.{added_nodes}
-use Rattle.btor2.specs.laws.Built.{Built, is_variable, is_a_constant, is_not, is_of_both, is_a_test, is_choice, is_sum, is_part, is_signs, is_both, is_test, AllBuilt, width_before, built_grows, Chain, chain_all, chain_append, Ops, both, test, or_chain, sub_chain, neq_chain, uext_chain, sext_chain, slice_chain, choice_chain, sum_chain, not_chain, a_constant}
+use Rattle.lines.specs.Words.{Word, sort, input, zeros, one, ones, const, constd, consth, inv, conj, disj, xor, add, sub, mul, sll, srl, sra, eq, neq, ult, slt, ite, concat, slice, uext, sext, constraint, other, shape}
+use Rattle.lines.specs.Format.{Ref, Constant}
+use Rattle.spelling.specs.Nodes.{invert, fits, own, nots, placed}
+use Rattle.btor2.specs.Conversion.{Table, State, known, at, width_in, operand_of, operands, width_of, any_unknown}
+use Rattle.spelling.specs.inner.Spelled.{rule_of}
+use Rattle.btor2.specs.laws.Sound.{wide_at, Sound}
+use Rattle.btor2.specs.laws.Built.{Built, is_variable, is_a_constant, is_not, is_of_both, is_a_test, is_choice, is_sum, is_part, is_signs, is_both, is_test, AllBuilt, width_before, Chain, Ops, both, test, or_chain, sub_chain, neq_chain, uext_chain, sext_chain, slice_chain, choice_chain, sum_chain, not_chain}
 
 -- ---- a line's own nodes, keyword by keyword
 

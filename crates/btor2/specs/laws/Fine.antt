@@ -1,9 +1,9 @@
 -- All nodes and roots of every state that lines lead to: nodes are built as they should, roots are nodes of one bit, each once.
-use Rattle.std.specs.Prelude.{◌≡◌, refl, Bool, true, false, cond, not, ◌&&◌, ◌||◌, ℕ, zero, suc, ◌+◌, ◌-◌, ◌%◌, ◌^◌, ◌≤◌, ◌<◌, T, eqb, ltb, leb, get_or}
+use Rattle.std.specs.Prelude.{◌≡◌, refl, Bool, true, false, cond, not, ◌||◌, ℕ, zero, suc, ◌+◌, ◌-◌, ◌%◌, ◌^◌, ◌≤◌, ◌<◌, eqb, get_or}
 use Rattle.std.proofs.Math.Path.{sym}
-use Rattle.std.proofs.Common.{ap, ◌∙◌, arith, mod-lt, pow_pos, length-append, eqb-true, leb-true, ltb-true, ltb-false, eq-eqb, ne_eqb}
-use Rattle.std.proofs.lemmas.Bool.{false≢true, eqb-false, not-false, not-true}
-use mathlib.Core.List.{List, [], ◌∷◌, ◌++◌, append_assoc, append-nil}
+use Rattle.std.proofs.Common.{ap, ◌∙◌, arith, mod-lt, pow_pos, length-append, eqb-true, eq-eqb, ne_eqb}
+use Rattle.std.proofs.lemmas.Bool.{false≢true, eqb-false, not-false}
+use mathlib.Core.List.{List, [], ◌∷◌, ◌++◌, append-nil}
 use Rattle.std.proofs.Math.ListN.{length}
 use Rattle.problem.specs.declared.layout.Node.{Node}
 use Rattle.lines.specs.declared.table.Makes.{Makes}
@@ -12,18 +12,16 @@ use Rattle.spelling.specs.declared.forms.Rule.TheVariants as rule
 use Rattle.spelling.specs.declared.line.Operand.{Operand}
 use Rattle.texts.specs.Numbers.{value_in}
 use Rattle.lines.specs.Lines.{Token, token, tokens}
-use Rattle.lines.specs.Words.{Word, number_of, word_of, shape}
-use Rattle.lines.specs.Format.{Ref, Constant, ref_of, signed, is_constant, constant_of, unsigned, constant_place, ref_place, refs_from, Item, item_of, item}
+use Rattle.lines.specs.Words.{number_of, word_of, shape}
+use Rattle.lines.specs.Format.{Ref, ref_of, signed, is_constant, constant_of, unsigned, constant_place, ref_place, refs_from, item_of, item}
 use Rattle.spelling.specs.Nodes.{invert, constant_value, fits, own, nots, placed, is_root}
 use Rattle.btor2.specs.Conversion.{State, start, known, at, width_in, operand_of, operands, width_of, any_unknown, sort_unknown, new_nodes, node_for, with_root, naming, added, after, line_fault, after_line}
 use Rattle.spelling.specs.inner.Spelled.{rule_of, constant_fits}
 use Rattle.btor2.specs.laws.Reached.{Reached, begin, more}
-use Rattle.lines.specs.laws.Word.{past_words}
 use Rattle.spelling.specs.laws.Constant.{constant_below}
 use Rattle.btor2.specs.laws.Passed.{Formed, Passes, passes}
-use Rattle.btor2.specs.laws.Sound.{AllWide, wide_at, Sound, reached_sound, Role, makes_sort, makes_input, makes_a_value, makes_a_root, role}
+use Rattle.btor2.specs.laws.Sound.{Sound, reached_sound, Role, makes_sort, makes_input, makes_a_value, makes_a_root, role}
 use Rattle.btor2.specs.laws.Read.{const_word, const_fits, base_some, operand_wide}
-use Rattle.btor2.specs.laws.Step.{added_nodes}
 use Rattle.btor2.specs.laws.Built.{AllBuilt, width_before, Chain, chain_all, chain_append, Ops}
 use Rattle.btor2.specs.laws.Chain.{has_sort, own_chain, width_some, nots_chain, place_in}
 

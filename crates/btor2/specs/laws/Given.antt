@@ -1,5 +1,5 @@
 -- That the kinds of the search give what the proofs rely on: signed below, arithmetic shift and sign extension as the format's page has them.
-use Rattle.std.specs.Prelude.{◌≡◌, refl, cond, ℕ, ◌+◌, ◌-◌, ◌/◌, ◌^◌, ◌≤◌, ◌<◌, ltb}
+use Rattle.std.specs.Prelude.{◌≡◌, refl, cond, ℕ, ◌+◌, ◌-◌, ◌/◌, ◌^◌, ◌≤◌, ◌<◌}
 use Rattle.std.proofs.Common.{ap, ◌∙◌, ⊎_elim, arith, lt-ltb, le-ltb}
 use Rattle.words.specs.laws.Bits.{lt_or_ge}
 use Rattle.operators.specs.Meaning.{flag, meaning, signed_shift, extended}

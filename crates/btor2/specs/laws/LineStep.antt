@@ -1,8 +1,8 @@
 -- A line with tokens taken: each refusal, and the arrays after it.
-use Rattle.std.specs.Prelude.{◌≡◌, Bool, true, false, cond, not, ◌||◌, List, [], ◌∷◌, ◌++◌, ℕ, zero, suc, ◌+◌, ◌-◌, ◌*◌, ◌≤◌, ◌<◌, eqb, ltb, leb, get_or, take, set}
+use Rattle.std.specs.Prelude.{◌≡◌, Bool, true, false, not, ◌||◌, List, [], ◌∷◌, ◌++◌, ℕ, zero, suc, ◌+◌, ◌*◌, ◌≤◌, ◌<◌, ltb, leb, get_or, take, set, Result, Ok, Err}
 use Rattle.std.proofs.Math.Path.{refl, ap}
-use Rattle.std.proofs.Common.{sym, ◌∙◌, arith, length-append, mod-eq_of_lt, ⊎_elim, get_or-take, get_or-append-add, eq-eqb, ne_eqb, eqb-true, ltb-false, ltb-true, le-ltb, lt-ltb, leb-false}
-use Rattle.std.proofs.lemmas.Bool.{false≢true, eqb-false}
+use Rattle.std.proofs.Common.{sym, ◌∙◌, arith, length-append, mod-eq_of_lt, ⊎_elim, get_or-take, get_or-append-add, eq-eqb, ltb-false, leb-false}
+use Rattle.std.proofs.lemmas.Bool.{false≢true}
 use Rattle.std.proofs.Math.ListN.{length, length-set, get_or-append}
 use Rattle.words.specs.laws.Bits.{lt_or_ge}
 use Rattle.std.proofs.lemmas.List.Edits.{sets}
@@ -11,31 +11,32 @@ use Rattle.problem.specs.declared.layout.Node.{Node}
 use Rattle.lines.specs.declared.table.Makes.{Makes}
 use Rattle.lines.specs.declared.table.Makes.TheVariants.{Sort, Input, Value, Root}
 use Rattle.spelling.specs.declared.line.Line.{Line}
+use Rattle.lines.specs.declared.fault.Fault.{Fault}
+use Rattle.lines.specs.declared.fault.Fault.TheVariants.{Id, Width, Room}
+use Rattle.lines.specs.Faults.{fault_number}
+use Rattle.lines.specs.laws.Faults.{fault_not_none}
 use Rattle.btor2.specs.declared.take.Counts.{Counts}
-use Rattle.btor2.specs.declared.take.Taken.{Taken}
-use Rattle.btor2.specs.declared.take.Taken.TheVariants.{Next, Fault}
 use Rattle.lines.specs.Lines.{Token, token, tokens}
 use Rattle.lines.specs.Words.{number_of, word_of, shape}
 use Rattle.lines.specs.Format.{format_fault, Item, item_of, item}
-use Rattle.btor2.specs.Conversion.{State, known, at, width_in, any_unknown, sort_unknown, new_nodes, node_for, naming, added, after, too_much, id_fault, misfit, line_fault, after_line}
+use Rattle.btor2.specs.Conversion.{State, width_in, any_unknown, sort_unknown, new_nodes, node_for, naming, added, after, too_much, id_fault, misfit, line_fault, after_line}
 use Rattle.spelling.specs.Bytes.{all_nodes, node_bytes, kind_bytes, little_endian}
-use Rattle.spelling.specs.Nodes.{invert}
-use Rattle.lines.specs.inner.Told.{id_of, find_line, is_alias}
+use Rattle.lines.specs.inner.Told.{id_of, is_alias}
 use Rattle.btor2.specs.inner.Kept.{Rising, Named, Seen}
-use Rattle.spelling.specs.inner.Spelled.{count_read, new_read, standing_for, fits_read}
+use Rattle.spelling.specs.inner.Spelled.{count_read, new_read, fits_read}
 use Rattle.btor2.specs.inner.Read.{Read}
 use Rattle.btor2.specs.inner.Taking.{unknown_read, overfull, roots_after, adds_name, NamedIf, RootIf, standing, roots_with, Placed, full, put, Settled, Fits, Kept, Stepped, next, fault}
 use Rattle.btor2.specs.inner.Taking as taking
 use Rattle.btor2.specs.laws.Reached.{Reached, more}
 use Rattle.btor2.specs.laws.Passed.{Formed, formed, or_both}
 use Rattle.btor2.specs.laws.Alias.{alias_empty}
-use Rattle.btor2.specs.laws.Sound.{AllWide, wide_at, Sound, reached_sound, Role, makes_sort, makes_input, makes_a_value, makes_a_root, role}
+use Rattle.btor2.specs.laws.Sound.{AllWide, Sound, reached_sound, Role, makes_sort, makes_input, makes_a_value, makes_a_root, role}
 use Rattle.spelling.specs.laws.Spell.{new_length}
 use Rattle.btor2.specs.laws.Read.{id_is, unknown_is, width_most, misfit_is, new_is, standing_is}
-use Rattle.spelling.specs.laws.Written.{node_long, all_long}
+use Rattle.spelling.specs.laws.Written.{node_long}
 use Rattle.btor2.specs.laws.Place.{room_left}
 use Rattle.btor2.specs.laws.NameIf.{either_room}
-use Rattle.btor2.specs.laws.Step.{not_zero, line_format, line_unknown, line_misfit, line_full, line_passes, added_last, added_nodes, added_roots, roots_kept, bytes_kept, overfull_is, parts, names_same, names_also, names_more, rising_more, under_more}
+use Rattle.btor2.specs.laws.Step.{line_format, line_unknown, line_misfit, line_full, line_passes, added_last, added_nodes, added_roots, roots_kept, bytes_kept, overfull_is, parts, names_same, names_also, names_more, rising_more, under_more}
 
 -- ---- the widths of nodes, read off their bytes
 
@@ -60,6 +61,7 @@ seen {room} {σ} {ls} {n} {bytes} K =
       named = K.named;
       sorted = S.sorted;
       widths = λ k h. sym (get_or-take (24 * n.nodes) bytes (24 * k + 1) 0 (let e = K.nodes_are in omega arith)) ∙ rw K.written (node_width σ.nodes k S.nodes_wide h);
+      rising = K.fits.rising;
     }
 
 -- ---- small laws
@@ -89,8 +91,8 @@ pub record NamesThen (τ : State) (ls : List (List ℕ)) (id nodes : ℕ) (i p :
 
 module _ {room : ℕ} {σ : State} {ls : List (List ℕ)} {n : Counts} {bytes ids places rooted : List ℕ} (K : Kept room σ ls n bytes ids places rooted)
     (l : List ℕ) (t : Token) (q : t ≡ token (tokens l) 0) (z : length t ≡ 0 → ⊥) (m : ℕ) (e : m ≡ format_fault (tokens l)) where
-  pub step_format : (m ≡ 0 → ⊥) → {b i p r : List ℕ} → Stepped room σ ls l b i p r (Fault m)
-  step_format h = fault (line_format room σ l t q z m e h) h
+  pub step_format : (f : Fault) → fault_number f ≡ m → {b i p r : List ℕ} → Stepped room σ ls l b i p r (Err f)
+  step_format f h = fault (line_format room σ l t q z m e (λ y. fault_not_none f (h ∙ y)) ∙ sym h)
 
   module _ (h : m ≡ 0) (x : Line) (R : Read σ (tokens l) x) where
     abbrev S : Sound ls σ
@@ -102,15 +104,15 @@ module _ {room : ℕ} {σ : State} {ls : List (List ℕ)} {n : Counts} {bytes id
     id_fault_lem : id_fault σ (item (tokens l)) ≡ unknown_read x n.last
     id_fault_lem = sym (unknown_is S K.named (tokens l) form x R n.last K.last_is)
 
-    step_unknown : unknown_read x n.last ≡ true → {b i p r : List ℕ} → Stepped room σ ls l b i p r (Fault 3)
-    step_unknown y = fault (line_unknown room σ l t q z m e h (id_fault_lem ∙ y)) (not_zero 3 (omega arith))
+    step_unknown : unknown_read x n.last ≡ true → {b i p r : List ℕ} → Stepped room σ ls l b i p r (Err Id)
+    step_unknown y = fault (line_unknown room σ l t q z m e h (id_fault_lem ∙ y))
 
     module _ (u : unknown_read x n.last ≡ false) where
       misfits : misfit σ (item (tokens l)) ≡ not (fits_read x)
       misfits = misfit_is S K.named (tokens l) form x R (id_fault_lem ∙ u)
 
-      step_misfit : fits_read x ≡ false → {b i p r : List ℕ} → Stepped room σ ls l b i p r (Fault 4)
-      step_misfit y = fault (line_misfit room σ l t q z m e h (id_fault_lem ∙ u) (misfits ∙ rw y)) (not_zero 4 (omega arith))
+      step_misfit : fits_read x ≡ false → {b i p r : List ℕ} → Stepped room σ ls l b i p r (Err Width)
+      step_misfit y = fault (line_misfit room σ l t q z m e h (id_fault_lem ∙ u) (misfits ∙ rw y))
 
       -- ---- what is added
 
@@ -148,9 +150,9 @@ module _ {room : ℕ} {σ : State} {ls : List (List ℕ)} {n : Counts} {bytes id
         fullness : too_much room (after σ (item (tokens l))) ≡ overfull room (n.nodes + count_read x) (roots_with x n rooted)
         fullness = overfull_is room (after σ (item (tokens l))) ∙ rw (nodes_count, roots_count)
 
-        step_full : overfull room (n.nodes + count_read x) (roots_with x n rooted) ≡ true → {b i p r : List ℕ} → Stepped room σ ls l b i p r (Fault 5)
+        step_full : overfull room (n.nodes + count_read x) (roots_with x n rooted) ≡ true → {b i p r : List ℕ} → Stepped room σ ls l b i p r (Err Room)
         step_full o =
-            fault (line_full room σ l t q z m e h no_unknown (misfits ∙ rw y) (fullness ∙ o)) (not_zero 5 (omega arith))
+            fault (line_full room σ l t q z m e h no_unknown (misfits ∙ rw y) (fullness ∙ o))
 
         module _ (o : overfull room (n.nodes + count_read x) (roots_with x n rooted) ≡ false) where
           passed : line_fault room σ (tokens l) ≡ 0
@@ -308,14 +310,14 @@ module _ {room : ℕ} {σ : State} {ls : List (List ℕ)} {n : Counts} {bytes id
             → (x.width ≤ 64 → b ≡ sets bytes (24 * n.nodes) (all_nodes (new_read x n.nodes)))
             → NamedIf (adds_name (shape (word_of x.word)).makes (count_read x) n.names) ids places n.names x.id (standing x n) i p names
             → RootIf n.roots (roots_with x n rooted) (standing x n) rooted r
-            → Stepped room σ ls l b i p r (Next (record { last = x.id; nodes = n.nodes + count_read x; roots = roots_with x n rooted; names = names }))
+            → Stepped room σ ls l b i p r (Ok (record { last = x.id; nodes = n.nodes + count_read x; roots = roots_with x n rooted; names = names }))
         step_put o bw Nm Rt = next (passed o) (kept_then o bw Nm Rt)
 
-        step_placed : {b i p r : List ℕ} {s : Taken} → Placed x n room bytes ids places rooted b i p r s → Stepped room σ ls l b i p r s
+        step_placed : {b i p r : List ℕ} {s : Result Counts Fault} → Placed x n room bytes ids places rooted b i p r s → Stepped room σ ls l b i p r s
         step_placed (full o) = step_full o
         step_placed (put o bw Nm Rt) = step_put o bw Nm Rt
 
-    pub step_settled : {b i p r : List ℕ} {s : Taken} → Settled x n room bytes ids places rooted b i p r s → Stepped room σ ls l b i p r s
+    pub step_settled : {b i p r : List ℕ} {s : Result Counts Fault} → Settled x n room bytes ids places rooted b i p r s → Stepped room σ ls l b i p r s
     step_settled (taking.unknown e) = step_unknown e
     step_settled (taking.misfits u e) = step_misfit u e
     step_settled (taking.placed u y P) = step_placed u y P

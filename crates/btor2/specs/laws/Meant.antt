@@ -1,21 +1,20 @@
 -- The values of nodes under an evaluation, and that a line's own nodes mean what the line means.
 use Rattle.std.proofs.Math.Path.{◌≡◌, refl}
-use Rattle.std.proofs.Common.{sym, ap, ◌∙◌, mod-lt, lt_of_le_of_lt, add-zero, pow_pos, pow_mono}
-use Rattle.std.specs.Prelude.{Bool, not, ◌&&◌, ◌||◌, T, leb, get_or, drop}
+use Rattle.std.proofs.Common.{sym, ◌∙◌, mod-lt, lt_of_le_of_lt, add-zero, pow_pos, pow_mono}
+use Rattle.std.specs.Prelude.{Bool, not, ◌&&◌, T, leb, get_or, drop}
 use Rattle.std.proofs.Math.Bool.{true, false, cond}
-use Rattle.std.proofs.lemmas.Bool.{false≢true}
-use mathlib.Core.List.{List, [], ◌∷◌, ◌++◌}
+use mathlib.Core.List.{List, [], ◌∷◌}
 use Rattle.std.proofs.Math.Logic.{⊎_elim}
 use Prim.Native.Nat.{ℕ, zero, suc, ◌+◌, ◌-◌, ◌*◌, ◌/◌, ◌%◌, ◌^◌, ◌≤◌, ◌<◌}
 use native.Mathlib.Omega.{arith}
 use Rattle.std.proofs.Math.Dec.{eqb, ltb}
-use Rattle.std.specs.Int.Bits.{bit_and, bit_or, bit_xor, and_lt}
+use Rattle.std.specs.Int.Bits.{bit_and, bit_or, and_lt}
 use Rattle.std.proofs.lemmas.Nat.{xor_lt, shr_le}
-use Rattle.std.proofs.Math.Pow.{ones_sub-lt, ones_lt}
+use Rattle.std.proofs.Math.Pow.{ones_sub-lt}
 use Rattle.std.proofs.Math.ListN.{length}
-use borrow.Author.Tests.{eqb-true, eqb-false, ltb-true, ltb-false, leb-true}
+use borrow.Author.Tests.{eqb-true, eqb-false}
 use Rattle.words.specs.laws.Bits.{lt_or_ge}
-use Rattle.operators.specs.Meaning.{flag, choose, meaning}
+use Rattle.operators.specs.Meaning.{flag, meaning}
 use Rattle.operators.specs.laws.Meaning.{joined_lt, meaning_lt}
 use Rattle.operators.specs.Table.{kind_of}
 use Rattle.operators.specs.Table as kind
@@ -23,14 +22,14 @@ use Rattle.problem.specs.declared.layout.Node.{Node}
 use Rattle.lines.specs.declared.table.Makes.TheVariants.{Value}
 use Rattle.lines.specs.Words.{Word, sort, input, zeros, one, ones, const, constd, consth, inv, conj, disj, xor, add, sub, mul, sll, srl, sra, eq, neq, ult, slt, ite, concat, slice, uext, sext, constraint, other, shape}
 use Rattle.lines.specs.Format.{Constant}
-use Rattle.spelling.specs.Nodes.{operator, constant_node, variable_node, invert, constant_value, fits, own}
+use Rattle.spelling.specs.Nodes.{operator, constant_node, invert, constant_value, fits, own}
 use Rattle.btor2.specs.Conversion.{width_in}
 use Rattle.btor2.specs.Meaning.{is_minus, moved, flipped, worth}
 use Rattle.nodes.specs.Problem.{by_kind}
 use Rattle.btor2.specs.Inputs.{inputs_of, variable_widths}
 use Rattle.btor2.specs.inner.Values.{Gives, Kinds, node_value, Evaluated, Fitting}
 use Rattle.btor2.specs.laws.Spelling.{spelled_sub, spelled_neq, spelled_uext, spelled_or}
-use Rattle.btor2.specs.laws.Built.{eq_both, one_of, two_of, Ops, is_both, is_test, Built, is_variable, is_a_constant, is_not, is_of_both, is_a_test, is_choice, is_sum, is_part, is_signs, AllBuilt}
+use Rattle.btor2.specs.laws.Built.{eq_both, two_of, Ops, is_both, is_test, Built, is_variable, is_a_constant, is_not, is_of_both, is_a_test, is_choice, is_sum, is_part, is_signs, AllBuilt}
 use Rattle.btor2.specs.laws.Chain.{has_sort, width_some}
 use Rattle.btor2.specs.laws.Accepted.{both_kinds, test_kinds}
 

@@ -1,7 +1,7 @@
 -- Over all lines: the world that a text tells and the nodes that it makes, under the same values of the inputs.
-use Rattle.std.specs.Prelude.{◌≡◌, Bool, not, ◌&&◌, ◌||◌, ◌↔◌, ℕ, zero, suc, ◌+◌, ◌-◌, ◌*◌, ◌^◌, ◌≤◌, ◌<◌, ltb, leb, length}
+use Rattle.std.specs.Prelude.{◌≡◌, Bool, ◌↔◌, ℕ, zero, suc, ◌+◌, ◌-◌, ◌<◌, ltb, length}
 use Rattle.std.proofs.Math.Path.{refl, sym}
-use Rattle.std.proofs.Common.{ap, ◌∙◌, length-append, drop_of_length-le}
+use Rattle.std.proofs.Common.{◌∙◌, length-append}
 use Rattle.std.proofs.Math.Bool.{true, false, cond}
 use Rattle.std.proofs.lemmas.Bool.{false≢true}
 use mathlib.Core.List.{List, [], ◌∷◌, ◌++◌, map, append_assoc, append-nil}
@@ -9,24 +9,24 @@ use native.Mathlib.Omega.{arith}
 use Rattle.std.proofs.Math.Nat.{add-zero}
 use Rattle.std.proofs.Math.Dec.{eqb}
 use Rattle.std.proofs.Math.ListN.{get_or, drop}
-use Rattle.std.proofs.Math.Seq.{append_snoc, drop-drop, drop-append_seam, get_or-drop, drop-length}
-use borrow.Author.Tests.{eqb-true, eqb-false, eq-eqb, ne_eqb, not-false}
+use Rattle.std.proofs.Math.Seq.{drop-drop, drop-append_seam, get_or-drop, drop-length}
+use borrow.Author.Tests.{eqb-true, eqb-false, not-false}
 use Rattle.problem.specs.declared.layout.Node.{Node}
 use Rattle.lines.specs.declared.table.Makes.{Makes}
-use Rattle.lines.specs.declared.table.Makes.TheVariants.{Sort, Input, Value, Root}
+use Rattle.lines.specs.declared.table.Makes.TheVariants.{Value}
 use Rattle.lines.specs.Lines.{Token, token, lines, tokens}
-use Rattle.lines.specs.Words.{Word, number_of, word_of, shape}
-use Rattle.lines.specs.Format.{Ref, refs_from, Item, item_of, item}
-use Rattle.spelling.specs.Nodes.{variable_node, invert, own, nots, placed}
-use Rattle.btor2.specs.Conversion.{Table, State, start, known, at, width_in, operands, new_nodes, node_for, with_root, naming, added, after, sort_unknown, line_fault, after_line, Outcome, converted, refused, convert_from, outcome}
-use Rattle.btor2.specs.Meaning.{Valued, nothing, World, sort_of, line_of, operand, value_of, valued, told, tell_line, tell, world, AllOne, Met}
+use Rattle.lines.specs.Words.{number_of, word_of, shape}
+use Rattle.lines.specs.Format.{refs_from, item_of, item}
+use Rattle.spelling.specs.Nodes.{variable_node, own, nots}
+use Rattle.btor2.specs.Conversion.{State, start, known, at, width_in, operands, new_nodes, node_for, with_root, naming, added, after, sort_unknown, line_fault, after_line, converted, refused, convert_from, outcome}
+use Rattle.btor2.specs.Meaning.{World, sort_of, line_of, operand, valued, told, tell_line, tell, world, AllOne, Met}
 use Rattle.nodes.specs.Problem.{by_kind}
 use Rattle.btor2.specs.Inputs.{inputs_of, variable_widths, widths_by, input_widths}
 use Rattle.btor2.specs.inner.Values.{Gives, Kinds, Evaluated, Fitting}
 use Rattle.lines.specs.inner.Told.{id_of}
 use Rattle.btor2.specs.laws.Sorts.{added_sorts}
 use Rattle.btor2.specs.laws.Reached.{Reached, begin, more, fold_more, fold_stops, outcome_reached}
-use Rattle.btor2.specs.laws.Entry.{known_snoc_new, known_snoc_old, known_snoc_other, at_snoc_new, at_snoc_old, at_snoc_other}
+use Rattle.btor2.specs.laws.Entry.{known_snoc_other, at_snoc_new, at_snoc_other}
 use Rattle.btor2.specs.laws.Passed.{Passes, passes}
 use Rattle.btor2.specs.laws.Sound.{Sound, reached_sound, unknown_sort, name_unknown, Role, makes_sort, makes_input, makes_a_value, makes_a_root, role}
 use Rattle.btor2.specs.laws.Step.{sort_none, added_nodes}

@@ -1,22 +1,25 @@
 -- Laws of what ids stand for.
-use Rattle.std.specs.Prelude.{◌≡◌, Bool, cond, not, List, [], ◌∷◌, ℕ, zero, suc, ◌+◌, ◌-◌, ◌*◌, ◌/◌, ◌^◌, ◌≤◌, ◌<◌, eqb, ltb, length}
+use Rattle.std.specs.Prelude.{◌≡◌, Bool, cond, List, ℕ, ◌+◌, ◌*◌, ◌^◌, ◌≤◌, ◌<◌, ltb, length, take, Option, Some, None, Result, Ok, Err}
+use Rattle.std.specs.List.Sorted.{IsBinarySearchResult}
+use Rattle.std.specs.Ordering.{nat_cmp}
+use Rattle.std.proofs.lemmas.List.Sorted.{searched}
 use Rattle.std.proofs.Math.Path.{refl}
-use Rattle.std.proofs.Common.{sym, ap, ◌∙◌, ⊎_elim, arith, eq-eqb, ne_eqb, lt-ltb, le-ltb, ltb-true, ltb-false, eqb-true}
+use Rattle.std.proofs.Common.{sym, ap, ◌∙◌, ⊎_elim, arith, ltb-false, length-take-le, get_or-take}
 use Rattle.std.proofs.Math.Bool.{true, false}
-use Rattle.std.proofs.lemmas.Bool.{false≢true, eqb-false}
+use Rattle.std.proofs.lemmas.Bool.{false≢true}
 use Rattle.std.proofs.Math.ListN.{get_or}
 use Rattle.words.specs.laws.Bits.{lt_or_ge}
 use Rattle.texts.specs.Numbers.{value_in}
 use Rattle.spelling.specs.declared.line.Operand.{Operand}
 use Rattle.lines.specs.Lines.{Token, token, tokens}
-use Rattle.lines.specs.Format.{Ref, signed, unsigned, ref_of}
+use Rattle.lines.specs.Format.{signed, unsigned, ref_of}
 use Rattle.btor2.specs.Conversion.{State, known, at, width_in, operand_of}
 use Rattle.lines.specs.inner.Told.{find_line, small, width_told, is_alias, alias_of}
-use Rattle.btor2.specs.inner.Kept.{Rising, Lower, Beside, there, nowhere, Also, Named, Sorted, Seen, node_named, looked_up}
+use Rattle.btor2.specs.inner.Kept.{Rising, Beside, there, nowhere, Named, Sorted, Seen, node_named, looked_up, Lower}
 use Rattle.btor2.specs.inner.Read.{operand_if, Operated}
 use Rattle.lines.specs.laws.Text.{small_id}
 
--- ---- halving
+-- ---- ids that increase
 
 not_less : (a : ℕ) → a < a → ⊥
 not_less a h = omega arith
@@ -32,11 +35,19 @@ module _ {ids : List ℕ} {names : ℕ} (R : Rising ids names) where
   pub halve_down : (id middle : ℕ) → middle < names → id ≤ get_or ids middle 0 → (k : ℕ) → middle ≤ k → k < names → id ≤ get_or ids k 0
   halve_down id middle l h k g m = let f = up_to_there middle k g m in omega arith
 
+  kept_long : length (take names ids) ≡ names
+  kept_long = length-take-le names ids R.inside
+
+  kept_rise : (i j : ℕ) → i ≤ j → j < length (take names ids) → get_or (take names ids) i 0 ≤ get_or (take names ids) j 0
+  kept_rise i j h l =
+      let k : j < names = omega (arith, kept_long) in
+      rw (get_or-take names ids i 0 (omega arith), get_or-take names ids j 0 k) (up_to_there i j h k)
+
   module _ {id k : ℕ} (places : List ℕ) (L : Lower ids names id k) where
-    pub beside_past : names ≤ k → Beside ids places names id 1024
+    pub beside_past : names ≤ k → Beside ids places names id None
     beside_past h = nowhere (λ j l e. let f = L.under j (omega arith) in omega arith)
 
-    pub beside_other : k < names → (get_or ids k 0 ≡ id → ⊥) → Beside ids places names id 1024
+    pub beside_other : k < names → (get_or ids k 0 ≡ id → ⊥) → Beside ids places names id None
     beside_other h n = nowhere (λ j l e. ⊎_elim (λ (g : j < k). let f = L.under j g in omega arith) (λ (g : k ≤ j). above j l e g) (lt_or_ge j k))
       where
         above : (j : ℕ) → j < names → get_or ids j 0 ≡ id → k ≤ j → ⊥
@@ -45,39 +56,53 @@ module _ {ids : List ℕ} {names : ℕ} (R : Rising ids names) where
             let u : get_or ids k 0 ≤ get_or ids j 0 = up_to_there k j g l in
             n (omega arith)
 
+  module _ (places : List ℕ) (id : ℕ) (r : Result ℕ ℕ) (B : IsBinarySearchResult (λ y. nat_cmp y id) (take names ids) r) where
+    pub beside_found : (k : ℕ) → r ≡ Ok k → Beside ids places names id (Some (get_or places k 0))
+    beside_found k e =
+        let s = rw e at (searched (take names ids) id r B kept_rise) in
+        let l : k < names = omega (arith, s.0, kept_long) in
+        there k l (sym (get_or-take names ids k 0 l) ∙ s.1)
+
+    pub beside_none : (i : ℕ) → r ≡ Err i → Beside ids places names id None
+    beside_none i e =
+        let s = rw e at (searched (take names ids) id r B kept_rise) in
+        nowhere (λ j l q. ⊎_elim (λ (g : j < i). below (s.1 j g) l q) (λ (g : i ≤ j). above (s.2 j g (rw kept_long l)) l q) (lt_or_ge j i))
+      where
+        below : {j : ℕ} → get_or (take names ids) j 0 < id → j < names → get_or ids j 0 ≡ id → ⊥
+        below {j} g l q = omega (arith, rw (get_or-take names ids j 0 l) at g)
+
+        above : {j : ℕ} → id < get_or (take names ids) j 0 → j < names → get_or ids j 0 ≡ id → ⊥
+        above {j} g l q = omega (arith, rw (get_or-take names ids j 0 l) at g)
+
 -- ---- following other names
 
-known_no : (σ : State) (id : ℕ) → (known id σ.named ≡ true → ⊥) → node_named σ id ≡ 1024
+known_no : (σ : State) (id : ℕ) → (known id σ.named ≡ true → ⊥) → node_named σ id ≡ None
 unfolding node_named
 known_no σ id n = by (known id σ.named) refl
   where
-    by : (b : Bool) → known id σ.named ≡ b → cond b (at id σ.named) 1024 ≡ 1024
+    by : (b : Bool) → known id σ.named ≡ b → cond b (Some (at id σ.named)) None ≡ None
     by true e = absurd (n e)
     by false e = refl
 
-known_yes : (σ : State) (id : ℕ) → known id σ.named ≡ true → node_named σ id ≡ at id σ.named
+known_yes : (σ : State) (id : ℕ) → known id σ.named ≡ true → node_named σ id ≡ Some (at id σ.named)
 unfolding node_named
 known_yes σ id e = rw e
 
 module _ {σ : State} {ls : List (List ℕ)} {names : ℕ} {ids places : List ℕ} (N : Named σ ls names ids places) where
-  pub named_zero : node_named σ 0 ≡ 1024
+  pub named_zero : node_named σ 0 ≡ None
   named_zero = known_no σ 0 (λ e. let f = N.some 0 e in omega arith)
 
   -- where the id is kept
-  pub named_here : {id r : ℕ} → Beside ids places names id r → r < 1024 → node_named σ id ≡ r
-  named_here (there k l e) h = rw (← e) (known_yes σ (get_or ids k 0) (N.direct k l) ∙ N.standing k l)
-  named_here (nowhere n) h = absurd (omega arith)
+  pub named_here : {id k : ℕ} {r : Option ℕ} → Beside ids places names id r → r ≡ Some k → node_named σ id ≡ Some k
+  named_here (there j l e) h = rw (← e) (known_yes σ (get_or ids j 0) (N.direct j l) ∙ ap Some (N.standing j l)) ∙ h
+  named_here (nowhere n) h = absurd (let y : ◌≡◌ {A = ℕ} 0 1 = cc in omega arith)
 
-  away : {id r : ℕ} → Beside ids places names id r → 1024 ≤ r → (k : ℕ) → k < names → get_or ids k 0 ≡ id → ⊥
-  away (there k l e) h =
-      let s = N.standing k l in
-      let i = N.inside (get_or ids k 0) (N.direct k l) in
-      let f = N.few in
-      absurd (omega arith)
+  away : {id : ℕ} {r : Option ℕ} → Beside ids places names id r → r ≡ None → (k : ℕ) → k < names → get_or ids k 0 ≡ id → ⊥
+  away (there k l e) h = absurd (let y : ◌≡◌ {A = ℕ} 0 1 = cc in omega arith)
   away (nowhere n) h = n
 
   -- where it is not: the line of which it is another name, if it is one
-  module _ {id r : ℕ} (a : ℕ) (l : List ℕ) (B : Beside ids places names id r) (h : 1024 ≤ r) (p : 0 < id)
+  module _ {id : ℕ} {r : Option ℕ} (a : ℕ) (l : List ℕ) (B : Beside ids places names id r) (h : r ≡ None) (p : 0 < id)
       (f : l ≡ find_line id ls) (e : a ≡ alias_of (tokens l)) where
     not_known : is_alias (tokens (find_line id ls)) ≡ false → known id σ.named ≡ true → ⊥
     not_known n k = false≢true (sym n ∙ N.others id k (away B h))
@@ -97,13 +122,13 @@ module _ {σ : State} {ls : List (List ℕ)} {names : ℕ} {ids places : List �
         by : (b : Bool) → is_alias (tokens (find_line id ls)) ≡ b → node_named σ id ≡ node_named σ a
         by true y =
             let A = N.aliases id p y in
-            rw (other_is y) (known_yes σ id A.told ∙ A.same ∙ sym (known_yes σ _ A.known_too))
+            rw (other_is y) (known_yes σ id A.told ∙ ap Some A.same ∙ sym (known_yes σ _ A.known_too))
         by false n = rw (other_none n) (known_no σ id (not_known n) ∙ sym named_zero)
 
-    pub named_stop : id ≤ a → node_named σ id ≡ 1024
+    pub named_stop : id ≤ a → node_named σ id ≡ None
     named_stop g = by (is_alias (tokens (find_line id ls))) refl
       where
-        by : (b : Bool) → is_alias (tokens (find_line id ls)) ≡ b → node_named σ id ≡ 1024
+        by : (b : Bool) → is_alias (tokens (find_line id ls)) ≡ b → node_named σ id ≡ None
         by true y = let A = (N.aliases id p y).below in let i = other_is y in absurd (omega arith)
         by false n = known_no σ id (not_known n)
 
@@ -126,37 +151,38 @@ named_small {σ} N id = by (ltb id (2 ^ 64)) refl
 
 -- the reference's sign s, its text u without it, its number m and the node that code found for it
 module _ {σ : State} {ls : List (List ℕ)} {names : ℕ} {bytes ids places : List ℕ} (S : Seen σ ls names bytes ids places)
-    (t u : Token) (s : Bool) (m node : ℕ) (es : s ≡ signed t) (eu : u ≡ unsigned t) (em : m ≡ small (value_in 10 u)) (en : node ≡ node_named σ m) where
+    (t u : Token) (s : Bool) (m : ℕ) (node : Option ℕ) (es : s ≡ signed t) (eu : u ≡ unsigned t) (em : m ≡ small (value_in 10 u)) (en : node ≡ node_named σ m) where
   node_is : node ≡ node_named σ (value_in 10 (unsigned t))
   node_is = en ∙ rw (em, eu) (named_small S.named (value_in 10 (unsigned t)))
 
-  case : (b : Bool) → known (value_in 10 (unsigned t)) σ.named ≡ b → node ≡ cond b (at (value_in 10 (unsigned t)) σ.named) 1024
+  case : (b : Bool) → known (value_in 10 (unsigned t)) σ.named ≡ b → node ≡ cond b (Some (at (value_in 10 (unsigned t)) σ.named)) None
   unfolding node_named
   case b e = node_is ∙ rw e
 
-  pub looked_none : 1024 ≤ node → record { negative = s; node = 1024; width = 0 } ≡ looked_up σ (ref_of t)
+  pub looked_none : node ≡ None → record { negative = s; node = 1024; width = 0 } ≡ looked_up σ (ref_of t)
   unfolding looked_up ref_of
   looked_none h = by (known (value_in 10 (unsigned t)) σ.named) refl
     where
       by : (b : Bool) → known (value_in 10 (unsigned t)) σ.named ≡ b → record { negative = s; node = 1024; width = 0 } ≡ looked_up σ (ref_of t)
       by true e =
-          let c : node ≡ at (value_in 10 (unsigned t)) σ.named = case true e in
-          let i = S.named.inside _ e in
-          let f = S.named.few in
-          absurd (omega arith)
+          let c : node ≡ Some (at (value_in 10 (unsigned t)) σ.named) = case true e in
+          absurd (let y : ◌≡◌ {A = ℕ} 0 1 = cc in omega arith)
       by false e = rw (e, es)
 
-  pub looked_some : node < 1024 → (w : ℕ) → w ≡ get_or bytes (24 * node + 1) 0 → record { negative = s; node = node; width = w } ≡ looked_up σ (ref_of t)
+  pub looked_some : (k : ℕ) → node ≡ Some k → (w : ℕ) → w ≡ get_or bytes (24 * k + 1) 0 → record { negative = s; node = k; width = w } ≡ looked_up σ (ref_of t)
   unfolding looked_up ref_of operand_of
-  looked_some h w ew = by (known (value_in 10 (unsigned t)) σ.named) refl
+  looked_some k h w ew = by (known (value_in 10 (unsigned t)) σ.named) refl
     where
-      by : (b : Bool) → known (value_in 10 (unsigned t)) σ.named ≡ b → record { negative = s; node = node; width = w } ≡ looked_up σ (ref_of t)
+      by : (b : Bool) → known (value_in 10 (unsigned t)) σ.named ≡ b → record { negative = s; node = k; width = w } ≡ looked_up σ (ref_of t)
       by true e =
-          let c : node ≡ at (value_in 10 (unsigned t)) σ.named = case true e in
+          let c : node ≡ Some (at (value_in 10 (unsigned t)) σ.named) = case true e in
+          let z : k ≡ at (value_in 10 (unsigned t)) σ.named = cc in
           let i = S.named.inside _ e in
-          let g : get_or bytes (24 * node + 1) 0 ≡ width_in σ.nodes node = S.widths node (rw c i) in
-          rw (e, ew, g, es, c)
-      by false e = absurd (let c : node ≡ 1024 = case false e in omega arith)
+          let g : get_or bytes (24 * k + 1) 0 ≡ width_in σ.nodes k = S.widths k (rw z i) in
+          rw (e, ew, g, es, z)
+      by false e =
+          let c : node ≡ None = case false e in
+          absurd (let y : ◌≡◌ {A = ℕ} 0 1 = cc in omega arith)
 
 -- ---- a sort
 

@@ -1,6 +1,6 @@
 -- Laws of a name that is added, or not.
 use Rattle.std.specs.Prelude.{◌≡◌, refl, Bool, true, false, ◌||◌, List, ℕ, ◌+◌, ◌≤◌, ◌<◌, ltb, set}
-use Rattle.std.proofs.Common.{sym, ◌∙◌, arith, ltb-true}
+use Rattle.std.proofs.Common.{sym, arith, ltb-true}
 use Rattle.std.proofs.lemmas.Bool.{false≢true}
 use Rattle.lines.specs.declared.table.Makes.{Makes}
 use Rattle.lines.specs.declared.table.Makes.TheVariants.{Sort, Input, Value, Root}
@@ -34,3 +34,15 @@ name_kept ids places names id node b e = rw e kept
 pub name_added : (ids places : List ℕ) (names id node : ℕ) (b : Bool) → b ≡ true
     → NamedIf b ids places names id node (set ids names id) (set places names node) (names + 1)
 name_added ids places names id node b e = rw e added
+
+-- how many ids there then are
+adds_few : (m : Makes) (n names nodes : ℕ) → adds_name m n names ≡ true → names ≤ nodes + 1024 → nodes + n ≤ 1024 → names + 1 ≤ nodes + n + 1024
+adds_few Sort n names nodes e f g = absurd (false≢true e)
+adds_few Input n names nodes e f g = (either_room n names nodes e f g).1
+adds_few Value n names nodes e f g = (either_room n names nodes e f g).1
+adds_few Root n names nodes e f g = absurd (false≢true e)
+
+pub named_few : {ids places ids' places' : List ℕ} {id node r : ℕ} {b : Bool} (m : Makes) (n names nodes : ℕ) → NamedIf b ids places names id node ids' places' r
+    → b ≡ adds_name m n names → names ≤ nodes + 1024 → nodes + n ≤ 1024 → r ≤ nodes + n + 1024
+named_few m n names nodes kept e f g = omega arith
+named_few m n names nodes added e f g = adds_few m n names nodes (sym e) f g

@@ -1,9 +1,9 @@
 -- Laws of a line's operands: three, of which those that the line does not have are blank, stand for the definition's list.
 use Rattle.std.proofs.Math.Path.{◌≡◌, refl}
-use Rattle.std.proofs.Common.{sym, ap, ◌∙◌, le-leb}
-use Rattle.std.specs.Prelude.{Bool, cond, ◌&&◌, ◌||◌, List, [], ◌∷◌, ◌++◌, eqb, ltb, length, get_or}
+use Rattle.std.proofs.Common.{sym, ◌∙◌}
+use Rattle.std.specs.Prelude.{Bool, cond, ◌||◌, List, [], ◌∷◌, get_or}
 use Rattle.std.proofs.Math.Bool.{true, false, not, false≢true}
-use Prim.Native.Nat.{ℕ, zero, suc, ◌+◌, ◌-◌, ◌≤◌, ◌<◌}
+use Prim.Native.Nat.{ℕ, zero, suc, ◌+◌, ◌≤◌}
 use native.Mathlib.Omega.{arith}
 use Rattle.std.proofs.Math.Dec.{leb}
 use Rattle.std.proofs.lemmas.Bool.{lt-leb}
@@ -11,11 +11,11 @@ use Rattle.spelling.specs.declared.line.Operand.{Operand}
 use Rattle.spelling.specs.declared.line.Operands.{Operands}
 use Rattle.lines.specs.Lines.{Token, token}
 use Rattle.lines.specs.Format.{Ref, ref_of, refs_from}
-use Rattle.spelling.specs.Nodes.{invert, nots, placed}
+use Rattle.spelling.specs.Nodes.{nots, placed}
 use Rattle.btor2.specs.Conversion.{State, known, at, operand_of, operands, width_of, any_unknown}
 use Rattle.btor2.specs.inner.Kept.{Named, looked_up}
 use Rattle.btor2.specs.inner.Read.{blank, operand_if, Operated}
-use Rattle.spelling.specs.inner.Spelled.{one_if, placed_at, three_of, nots_of}
+use Rattle.spelling.specs.inner.Spelled.{one_if, placed_at, three_of}
 use Rattle.btor2.specs.inner.Taking.{operand_missing}
 
 -- ---- which are known

@@ -1,15 +1,14 @@
 -- What a line that passes has: no refusal is given.
-use Rattle.std.specs.Prelude.{◌≡◌, refl, Bool, true, false, cond, not, ◌&&◌, ◌||◌, List, [], ◌∷◌, ◌++◌, ℕ, zero, suc, ◌+◌, ◌-◌, ◌^◌, ◌≤◌, ◌<◌, eqb, ltb, leb, length, get_or}
-use Rattle.std.proofs.Common.{sym, ap, ◌∙◌, arith, eq-eqb, ne_eqb, eqb-true, ltb-false, leb-false}
-use Rattle.std.proofs.lemmas.Bool.{false≢true, eqb-false, not-false, not-true}
+use Rattle.std.specs.Prelude.{◌≡◌, refl, Bool, true, false, not, ◌&&◌, ◌||◌, List, ◌∷◌, ℕ, ◌^◌, ◌≤◌, ◌<◌, eqb, ltb, leb, length}
+use Rattle.std.proofs.Common.{sym, ap, arith, eq-eqb, eqb-true, ltb-false, leb-false}
+use Rattle.std.proofs.lemmas.Bool.{false≢true, not-false}
 use Rattle.texts.specs.Numbers.{value_in}
-use Rattle.lines.specs.Lines.{Token, token, tokens}
+use Rattle.lines.specs.Lines.{Token, token}
 use Rattle.lines.specs.Words.{number_of, word_of, shape}
-use Rattle.lines.specs.Format.{◌or_else◌, given, is_id, is_word, is_constant, id_wrong, sort_fault, refs_bad, numbers_bad, constant_bad, symbol_bad, arguments_wrong, format_fault, ref_place, number_place, constant_place, Item, item_of, item}
+use Rattle.lines.specs.Format.{◌or_else◌, given, is_id, is_word, is_constant, id_wrong, refs_bad, numbers_bad, constant_bad, symbol_bad, arguments_wrong, format_fault, ref_place, number_place, constant_place, item}
 use Rattle.spelling.specs.Nodes.{fits}
-use Rattle.btor2.specs.Conversion.{State, at, operands, width_of, any_unknown, sort_unknown, id_fault, misfit, after, too_much, size, item_fault, line_fault, after_line}
-use Rattle.lines.specs.inner.Told.{id_of, small}
-use Rattle.lines.specs.laws.Text.{small_id}
+use Rattle.btor2.specs.Conversion.{State, at, operands, width_of, any_unknown, sort_unknown, id_fault, misfit, after, too_much, size, item_fault, line_fault}
+use Rattle.lines.specs.inner.Told.{id_of}
 
 -- ---- numbers that are not given
 

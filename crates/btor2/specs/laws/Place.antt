@@ -1,12 +1,10 @@
 -- What is added for a line, in the parts that code adds it in.
-use Rattle.std.specs.Prelude.{◌≡◌, refl, Bool, true, false, ◌||◌, List, ℕ, ◌+◌, ◌*◌, ◌≤◌, ◌<◌, ltb, length, take}
-use Rattle.std.proofs.Common.{sym, ap, ◌∙◌, arith, ltb-false}
-use Rattle.std.proofs.lemmas.Bool.{false≢true}
+use Rattle.std.specs.Prelude.{◌≡◌, Bool, false, ◌||◌, List, ℕ, ◌+◌, ◌*◌, ◌≤◌, ltb, take, Ok}
+use Rattle.std.proofs.Common.{sym, ◌∙◌, ltb-false}
 use Rattle.std.proofs.lemmas.List.Edits.{sets}
 use Rattle.lines.specs.declared.table.Makes.{Makes}
 use Rattle.spelling.specs.declared.line.Line.{Line}
 use Rattle.btor2.specs.declared.take.Counts.{Counts}
-use Rattle.btor2.specs.declared.take.Taken.TheVariants.{Next}
 use Rattle.lines.specs.Words.{shape, word_of}
 use Rattle.spelling.specs.Bytes.{all_nodes}
 use Rattle.spelling.specs.inner.Spelled.{count_read, new_read, standing_for}
@@ -46,7 +44,7 @@ module _ (x : Line) (n : Counts) (room : ℕ) where
       → NamedIf (adds_name m total n.names) ids places n.names x.id node ids' places' names
       → RootIf n.roots roots node rooted rooted'
       → Placed x n room bytes ids places rooted bytes' ids' places' rooted'
-      (Next (record { last = x.id; nodes = n.nodes + total; roots = roots; names = names }))
+      (Ok (record { last = x.id; nodes = n.nodes + total; roots = roots; names = names }))
   place_put bytes ids places rooted bytes' ids' places' rooted' m total node roots names b em et en er eb f w N R =
       let j = place_judged rooted m total node roots b em et en er eb f in
       let i : node ≡ standing x n = en ∙ rw et in

@@ -1,17 +1,9 @@
 -- The states that lines lead to without a refusal, and what code relies on: the sorts defined so far are those that the lines tell.
-use Rattle.std.specs.Prelude.{◌≡◌, refl, Bool, true, false, cond, List, [], ◌∷◌, ◌++◌, ℕ, zero, suc, eqb, ltb}
-use Rattle.std.proofs.Common.{sym, ap, ◌∙◌, append_assoc, append-nil, arith, eqb-true, ltb-true, ltb-false, ne_eqb, eq-eqb}
-use Rattle.std.proofs.lemmas.Bool.{eqb-false}
-use Rattle.texts.specs.Numbers.{value_in}
-use Rattle.lines.specs.declared.table.Makes.{Makes}
-use Rattle.lines.specs.declared.table.Makes.TheVariants.{Sort, Input, Value, Root}
+use Rattle.std.specs.Prelude.{◌≡◌, refl, Bool, true, false, List, [], ◌∷◌, ◌++◌, ℕ, zero, suc, ltb}
+use Rattle.std.proofs.Common.{sym, ◌∙◌, append-nil, arith, ne_eqb, eq-eqb}
 use Rattle.std.proofs.Math.Seq.{append_snoc}
-use Rattle.lines.specs.Lines.{Token, token, lines, tokens}
-use Rattle.texts.specs.Runs.{ascii, equal}
-use Rattle.lines.specs.Words.{Word, names, index_of, number_of, word_of, shape}
-use Rattle.lines.specs.laws.Word.{makes_value, makes_root}
-use Rattle.lines.specs.Format.{Item, item_of, item}
-use Rattle.btor2.specs.Conversion.{State, start, Table, naming, added, after, line_fault, after_line, Outcome, converted, refused, convert_from, outcome}
+use Rattle.lines.specs.Lines.{lines, tokens}
+use Rattle.btor2.specs.Conversion.{State, start, line_fault, after_line, converted, refused, convert_from, outcome}
 
 pub data Reached (room : ℕ) : List (List ℕ) → State → Type 0 where
   begin : Reached room [] start

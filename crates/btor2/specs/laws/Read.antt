@@ -1,11 +1,11 @@
 -- That what code decides from what it has read of a line is what the definition decides: what is unknown, what fits, the nodes.
-use Rattle.std.specs.Prelude.{◌≡◌, refl, Bool, true, false, cond, ◌&&◌, ◌||◌, List, [], ◌∷◌, ◌++◌, ℕ, zero, suc, ◌+◌, ◌-◌, ◌^◌, ◌≤◌, ◌<◌, T, eqb, ltb, leb, length, get_or}
-use Rattle.std.proofs.Common.{sym, ◌∙◌, arith, ltb→lt, pow_pos, lt_of_le_ones, eq-eqb, ne_eqb, eqb-true, leb-true, leb-false, le-leb, lt-ltb, le-ltb, ltb-true, ltb-false}
+use Rattle.std.specs.Prelude.{◌≡◌, refl, Bool, true, false, cond, ◌&&◌, ◌||◌, List, [], ◌∷◌, ◌++◌, ℕ, zero, suc, ◌+◌, ◌-◌, ◌^◌, ◌≤◌, ◌<◌, T, eqb, ltb, leb, length}
+use Rattle.std.proofs.Common.{sym, ◌∙◌, arith, pow_pos, ne_eqb, eqb-true, leb-true, le-leb, le-ltb, ltb-true, ltb-false}
 use Rattle.std.proofs.Math.Path.{ap}
 use Rattle.std.proofs.Math.Bool.{not}
 use Rattle.std.proofs.lemmas.Bool.{false≢true, eqb-false, lt-leb}
 use Rattle.std.proofs.Math.Pow.{le_ones}
-use Rattle.words.specs.laws.Cases.{every, every_at}
+use Rattle.words.specs.laws.Cases.{every_at}
 use Rattle.texts.specs.Numbers.{value_in}
 use Rattle.texts.specs.laws.Runs.{both_true}
 use Rattle.lines.specs.declared.table.Makes.{Makes}
@@ -15,23 +15,22 @@ use Rattle.spelling.specs.declared.forms.Rule.TheVariants as rule
 use Rattle.spelling.specs.declared.forms.Form.{Form}
 use Rattle.spelling.specs.declared.forms.Form.TheVariants as form
 use Rattle.spelling.specs.declared.line.Operand.{Operand}
-use Rattle.spelling.specs.declared.line.Operands.{Operands}
 use Rattle.spelling.specs.declared.line.Line.{Line}
 use Rattle.lines.specs.Lines.{Token, token}
 use Rattle.lines.specs.Words.{number_of, word_of, shape}
-use Rattle.lines.specs.Format.{Ref, Constant, signed, unsigned, is_constant, constant_of, ref_place, number_place, constant_place, refs_from, Item, item_of, item}
-use Rattle.spelling.specs.Nodes.{constant_value, fits, own, nots, placed}
-use Rattle.btor2.specs.Conversion.{State, known, at, width_in, operand_of, operands, width_of, any_unknown, sort_unknown, id_fault, misfit, new_nodes, node_for}
-use Rattle.lines.specs.inner.Told.{id_of, small}
-use Rattle.btor2.specs.inner.Kept.{Named, Sorted}
-use Rattle.spelling.specs.inner.Spelled.{rule_of, rule_fits, short, most_of, constant_fits, form_of, kind_for, spelled_by, one_if, placed_at, three_of, nots_of, count_read, new_read, standing_for, fits_read}
+use Rattle.lines.specs.Format.{Ref, signed, unsigned, is_constant, constant_of, ref_place, constant_place, item_of, item}
+use Rattle.spelling.specs.Nodes.{constant_value, fits, own, nots}
+use Rattle.btor2.specs.Conversion.{State, at, operand_of, operands, width_of, any_unknown, sort_unknown, id_fault, misfit, new_nodes, node_for}
+use Rattle.lines.specs.inner.Told.{id_of}
+use Rattle.btor2.specs.inner.Kept.{Named}
+use Rattle.spelling.specs.inner.Spelled.{rule_of, rule_fits, short, most_of, constant_fits, form_of, placed_at, three_of, count_read, new_read, standing_for, fits_read}
 use Rattle.btor2.specs.inner.Read.{blank, operand_if, Operated, Read}
 use Rattle.spelling.specs.inner.Constants.{Told, Literally}
 use Rattle.btor2.specs.inner.Taking.{sort_missing, operand_missing, unknown_read}
 use Rattle.lines.specs.laws.Text.{small_id}
 use Rattle.lines.specs.laws.Word.{few_refs}
 use Rattle.spelling.specs.laws.Spell.{nots_length, new_length}
-use Rattle.spelling.specs.laws.Rule.{short_same, fits_rule, told_by, field_none, Fields, own_spelled}
+use Rattle.spelling.specs.laws.Rule.{fits_rule, told_by, field_none, Fields, own_spelled}
 use Rattle.btor2.specs.laws.Operand.{missing_is, Padded, padded}
 use Rattle.btor2.specs.laws.Passed.{Formed}
 use Rattle.btor2.specs.laws.Sound.{AllWide, wide_at, Sound, Role, makes_sort, makes_input, makes_a_value, makes_a_root, role}
@@ -55,7 +54,7 @@ is_literal : Form → Bool
 is_literal form.Nothing = false
 is_literal form.Variable = false
 is_literal form.Constant = true
-is_literal form.Plain = false
+is_literal (form.Plain kind) = false
 is_literal form.Slice = false
 is_literal form.Or = false
 is_literal form.Sub = false

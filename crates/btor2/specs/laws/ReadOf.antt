@@ -1,6 +1,6 @@
 -- That a line read place by place is read as it says.
-use Rattle.std.specs.Prelude.{◌≡◌, refl, Bool, true, false, cond, List, ℕ, ◌+◌, ◌^◌, ◌≤◌, ◌<◌, ltb}
-use Rattle.std.proofs.Common.{sym, ap, ◌∙◌, arith, ltb-false}
+use Rattle.std.specs.Prelude.{◌≡◌, refl, Bool, true, false, cond, List, ℕ, ◌+◌, ◌^◌, ltb}
+use Rattle.std.proofs.Common.{sym, ◌∙◌, ltb-false}
 use Rattle.texts.specs.Numbers.{value_in}
 use Rattle.lines.specs.declared.table.Makes.{Makes}
 use Rattle.spelling.specs.declared.constants.Literal.{Literal}

@@ -1,5 +1,5 @@
 -- The bytes of a state as the search evaluates them: their nodes' values are those of the state's nodes.
-use Rattle.std.specs.Prelude.{◌≡◌, refl, Bool, true, false, List, [], ◌∷◌, map, ◌↔◌, ℕ, zero, suc, ◌-◌, ◌^◌, ◌≤◌, ◌<◌, drop}
+use Rattle.std.specs.Prelude.{◌≡◌, refl, List, [], ◌∷◌, map, ◌↔◌, ℕ, zero, suc, ◌-◌, ◌^◌, ◌≤◌, ◌<◌, drop}
 use Rattle.std.proofs.Math.Path.{sym, ap}
 use Rattle.std.proofs.Common.{◌∙◌}
 use native.Mathlib.Omega.{arith}
@@ -11,20 +11,19 @@ use Rattle.operators.specs.Meaning.{meaning}
 use Rattle.operators.specs.Table.{kind_of, shape_of}
 use Rattle.operators.specs.laws.Meaning.{meaning_known}
 use Rattle.problem.specs.declared.layout.Node.{Node}
-use Rattle.problem.specs.Layout.{node_count, root_count, node_at, width_at, root_at}
-use Rattle.problem.specs.inner.Facts.{NodeFacts}
+use Rattle.problem.specs.Layout.{root_count, width_at, root_at}
 use Rattle.nodes.specs.Problem.{by_kind, problem, value_of}
 use Rattle.nodes.specs.Values.{VariablesAgree}
 use Rattle.nodes.specs.Values as run
 use Rattle.nodes.specs.laws.Nodes.{Which, variable, constant, inner, which, kind_own, kind_constant, kind_inner}
 use Rattle.nodes.specs.laws.Readings.{gives_value, value_of_constant}
-use Rattle.spelling.specs.Nodes.{operator, variable_node, constant_node, invert}
-use Rattle.btor2.specs.Conversion.{State, width_in, bytes_of}
+use Rattle.spelling.specs.Nodes.{variable_node, invert}
+use Rattle.btor2.specs.Conversion.{State, bytes_of}
 use Rattle.btor2.specs.Meaning.{AllOne}
 use Rattle.btor2.specs.Inputs.{inputs_of, variable_widths}
 use Rattle.btor2.specs.inner.Values.{node_value, Evaluated, Fitting}
 use Rattle.btor2.specs.laws.Given.{search_gives}
-use Rattle.btor2.specs.laws.Built.{is_both, is_test, Built, is_variable, is_a_constant, is_not, is_of_both, is_a_test, is_choice, is_sum, is_part, is_signs, AllBuilt}
+use Rattle.btor2.specs.laws.Built.{Built, is_variable, is_a_constant, is_not, is_of_both, is_a_test, is_choice, is_sum, is_part, is_signs, AllBuilt}
 use Rattle.btor2.specs.laws.Fine.{Fine}
 use Rattle.btor2.specs.laws.Bytes.{nodes_told, roots_told}
 use Rattle.btor2.specs.laws.Accepted.{both_kinds, test_kinds, read_at, told_width, facts_at, root_in_place}

@@ -1,19 +1,19 @@
 -- Laws of sorts that are kept: they stay right as lines pass, and a sort's line that has passed may be added.
-use Rattle.std.specs.Prelude.{◌≡◌, refl, Bool, true, false, ◌||◌, List, [], ◌∷◌, ◌++◌, ℕ, ◌+◌, ◌^◌, ◌≤◌, ◌<◌, eqb, leb, length, get_or, set}
-use Rattle.std.proofs.Common.{sym, ap, ◌∙◌, arith, get_or-set_same, get_or-set_other, eqb-true, leb-false, lt-ltb}
+use Rattle.std.specs.Prelude.{◌≡◌, refl, Bool, true, false, List, [], ◌∷◌, ◌++◌, ℕ, ◌+◌, ◌^◌, ◌<◌, eqb, length, get_or, set, ◌||◌, leb}
+use Rattle.std.proofs.Common.{sym, ◌∙◌, arith, get_or-set_same, get_or-set_other, eqb-true, lt-ltb, leb-false}
 use Rattle.std.proofs.lemmas.Bool.{eqb-false}
 use Rattle.lines.specs.declared.table.Makes.{Makes}
 use Rattle.lines.specs.declared.table.Makes.TheVariants.{Sort, Input, Value, Root}
 use Rattle.lines.specs.Lines.{Token, token, tokens}
 use Rattle.texts.specs.Numbers.{value_in}
 use Rattle.lines.specs.Format.{Item, item, item_of}
-use Rattle.btor2.specs.Conversion.{Table, State, start, known, at, naming, added, after, line_fault, after_line}
+use Rattle.btor2.specs.Conversion.{Table, State, known, at, naming, added, after, line_fault, after_line}
 use Rattle.lines.specs.inner.Told.{id_of, find_line, small, width_told}
 use Rattle.btor2.specs.inner.Kept.{Sorted, SortsKept, WidthKept, there, nowhere, SortNoted, same, noted}
-use Rattle.btor2.specs.laws.Reached.{Reached, more}
+use Rattle.btor2.specs.laws.Reached.{Reached}
 use Rattle.btor2.specs.laws.Entry.{known_snoc_old, at_snoc_old, at_unknown, find_new}
-use Rattle.btor2.specs.laws.Passed.{or_both, Passes, passes}
-use Rattle.btor2.specs.laws.Sound.{Sound, reached_sound, no_width}
+use Rattle.btor2.specs.laws.Passed.{passes, or_both}
+use Rattle.btor2.specs.laws.Sound.{reached_sound, no_width}
 
 -- ---- sorts stay
 
@@ -100,6 +100,7 @@ noted_as ts sorts ids widths t w i ew et ei n li lw =
     let s : 0 < w = omega arith in
     rw (ei, et, ew) (noted (rw (← ew) s) li lw)
 
+-- a sort that is noted
 pub noting : (w sorts : ℕ) → (eqb w 0 || leb 64 sorts) ≡ false → (w ≡ 0 → ⊥) × (sorts < 64)
 noting w sorts e =
     let p = or_both (eqb w 0) (leb 64 sorts) e in

@@ -1,10 +1,10 @@
 -- What holds of every state that lines lead to: ids are those of the lines, sorts are told by the text, other names name what lower ids do.
-use Rattle.std.specs.Prelude.{◌≡◌, Bool, true, false, cond, not, ◌&&◌, ◌||◌, List, [], ◌∷◌, ◌++◌, ℕ, zero, suc, ◌+◌, ◌-◌, ◌^◌, ◌≤◌, ◌<◌, eqb, ltb, leb, length, get_or}
+use Rattle.std.specs.Prelude.{◌≡◌, Bool, true, false, cond, not, ◌&&◌, ◌||◌, List, [], ◌∷◌, ◌++◌, ℕ, zero, suc, ◌+◌, ◌-◌, ◌^◌, ◌≤◌, ◌<◌, eqb, ltb, leb, length}
 use Rattle.std.proofs.Math.Path.{refl}
-use Rattle.std.proofs.Common.{sym, ap, ◌∙◌, ⊎_elim, arith, pow_pos}
+use Rattle.std.proofs.Common.{sym, ◌∙◌, arith, pow_pos}
 use Rattle.std.proofs.lemmas.Bool.{false≢true}
 use Rattle.std.proofs.Math.ListN.{length-append}
-use borrow.Author.Tests.{eq-eqb, ne_eqb, eqb-true, eqb-false, leb-true, lt-ltb, ltb-true, ltb-false}
+use borrow.Author.Tests.{ne_eqb, eqb-true, eqb-false, leb-true, lt-ltb, ltb-true, ltb-false}
 use Rattle.texts.specs.Runs.{ascii, equal, split}
 use Rattle.texts.specs.laws.Runs.{both_true}
 use Rattle.texts.specs.Numbers.{value_from, value_in}
@@ -15,14 +15,14 @@ use Rattle.problem.specs.declared.layout.Node.{Node}
 use Rattle.lines.specs.Words.{Word, sort, input, zeros, one, ones, const, constd, consth, inv, conj, disj, xor, add, sub, mul, sll, srl, sra, eq, neq, ult, slt, ite, concat, slice, uext, sext, constraint, other, names, index_of, number_of, word_of, shape}
 use Rattle.lines.specs.Format.{Ref, Constant, Item, item_of, item}
 use Rattle.spelling.specs.Nodes.{fits, own, operator, constant_node, invert, nots}
-use Rattle.btor2.specs.Conversion.{State, start, known, at, width_in, operand_of, operands, new_nodes, node_for, naming, added, after, with_root, line_fault, after_line}
+use Rattle.btor2.specs.Conversion.{State, start, known, at, width_in, operand_of, operands, new_nodes, node_for, naming, added, after, line_fault, after_line}
 use Rattle.lines.specs.inner.Told.{id_of, find_line, narrow, width_told, is_alias}
 use Rattle.btor2.specs.inner.Kept.{Also, Sorted}
 use Rattle.lines.specs.laws.Word.{makes_value, makes_root}
 use Rattle.btor2.specs.laws.Reached.{Reached, begin, more}
-use Rattle.btor2.specs.laws.Entry.{known_snoc_new, known_snoc_old, known_snoc_other, at_snoc_new, at_snoc_old, at_snoc_other, at_unknown, AllBelow, below_mono, below_snoc, find_other, find_new, find_none}
+use Rattle.btor2.specs.laws.Entry.{known_snoc_new, known_snoc_old, known_snoc_other, at_snoc_new, at_snoc_old, at_snoc_other, AllBelow, below_mono, below_snoc, find_other, find_new, find_none}
 use Rattle.btor2.specs.laws.Passed.{Passes, passes}
-use Rattle.btor2.specs.laws.Alias.{alias_empty, alias_word, Another, another}
+use Rattle.btor2.specs.laws.Alias.{alias_empty, another}
 
 -- all nodes are at most 64 bits wide
 unfoldable pub AllWide : List Node → Type 0

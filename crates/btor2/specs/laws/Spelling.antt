@@ -1,7 +1,7 @@
 -- That what is spelled out in several nodes means what the line means: not, and, add and eq make or, sub and neq; concat with 0 extends;
 -- a negative reference is a not.
-use Rattle.std.specs.Prelude.{◌≡◌, refl, Bool, true, false, not, ℕ, zero, suc, ◌+◌, ◌-◌, ◌*◌, ◌/◌, ◌%◌, ◌^◌, ◌≤◌, ◌<◌, eqb, ltb}
-use Rattle.std.proofs.Common.{sym, ap, ◌∙◌, arith, mod-eq_of_lt, ltb-true, ltb-false, ⊎_elim}
+use Rattle.std.specs.Prelude.{◌≡◌, refl, Bool, true, false, not, ℕ, ◌+◌, ◌-◌, ◌*◌, ◌%◌, ◌^◌, ◌≤◌, ◌<◌, eqb, ltb}
+use Rattle.std.proofs.Common.{sym, ◌∙◌, arith, mod-eq_of_lt, ltb-true, ltb-false, ⊎_elim}
 use Rattle.std.proofs.Math.Nat.{mod-eq-sub-mod}
 use Rattle.std.specs.Int.Bits.{bit_and, bit_or}
 use Rattle.std.proofs.lemmas.Nat.{and_le_l, or_lt}

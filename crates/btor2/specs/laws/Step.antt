@@ -1,39 +1,26 @@
 -- That taking a line keeps what code keeps, and refuses as the definition does.
-use Rattle.std.specs.Prelude.{◌≡◌, Bool, true, false, cond, not, ◌&&◌, ◌||◌, List, [], ◌∷◌, ◌++◌, ℕ, zero, suc, ◌+◌, ◌-◌, ◌*◌, ◌^◌, ◌≤◌, ◌<◌, eqb, ltb, leb, length, get_or, take, drop, set}
+use Rattle.std.specs.Prelude.{◌≡◌, Bool, true, false, cond, List, [], ◌∷◌, ◌++◌, ℕ, ◌+◌, ◌*◌, ◌≤◌, ◌<◌, eqb, length, get_or, take, set, Ok}
 use Rattle.std.proofs.Math.Path.{refl}
-use Rattle.std.proofs.Common.{sym, ap, ◌∙◌, append-nil, ⊎_elim, arith, add-one, length-set, length-append, take-suc-set, get_or-set_same, get_or-set_other, eq-eqb, ne_eqb, eqb-true, ltb-false, ltb-true, le-ltb}
-use Rattle.std.proofs.lemmas.Bool.{false≢true, eqb-false}
+use Rattle.std.proofs.Common.{sym, ◌∙◌, append-nil, arith, add-one, length-set, length-append, take-suc-set, get_or-set_same, get_or-set_other, eq-eqb, ne_eqb, eqb-true}
+use Rattle.std.proofs.lemmas.Bool.{eqb-false}
 use Rattle.std.proofs.lemmas.List.Edits.{sets}
-use Rattle.std.proofs.Math.Seq.{length-sets}
-use Rattle.words.specs.laws.Bits.{lt_or_ge}
 use Rattle.problem.specs.declared.layout.Node.{Node}
 use Rattle.lines.specs.declared.table.Makes.{Makes}
 use Rattle.lines.specs.declared.table.Makes.TheVariants.{Sort, Input, Value, Root}
-use Rattle.spelling.specs.declared.line.Line.{Line}
 use Rattle.btor2.specs.declared.take.Counts.{Counts}
-use Rattle.btor2.specs.declared.take.Taken.{Taken}
-use Rattle.btor2.specs.declared.take.Taken.TheVariants.{Next, Fault}
 use Rattle.lines.specs.Lines.{Token, token, kept, tokens}
-use Rattle.lines.specs.Words.{number_of, word_of, shape}
-use Rattle.lines.specs.Format.{◌or_else◌, given, format_fault, refs_from, Item, item_of, item}
-use Rattle.spelling.specs.Nodes.{own, nots, placed, is_root}
-use Rattle.btor2.specs.Conversion.{State, known, at, operands, new_nodes, node_for, with_root, naming, added, after, size, too_much, id_fault, misfit, item_fault, line_fault, after_line}
+use Rattle.lines.specs.Words.{number_of, shape}
+use Rattle.lines.specs.Format.{◌or_else◌, format_fault, refs_from, Item, item_of, item}
+use Rattle.spelling.specs.Nodes.{own, nots, is_root}
+use Rattle.btor2.specs.Conversion.{State, known, at, operands, new_nodes, node_for, with_root, naming, added, after, too_much, id_fault, misfit, item_fault, line_fault, after_line}
 use Rattle.spelling.specs.Bytes.{all_nodes}
 use Rattle.lines.specs.inner.Told.{id_of, find_line, is_alias}
 use Rattle.btor2.specs.inner.Kept.{Rising, Named}
-use Rattle.spelling.specs.inner.Spelled.{count_read, new_read, standing_for, fits_read}
-use Rattle.btor2.specs.inner.Read.{Read}
-use Rattle.btor2.specs.inner.Taking as taking
-use Rattle.btor2.specs.inner.Taking.{unknown_read, overfull, roots_after, adds_name, NamedIf, RootIf, standing, roots_with, Placed, full, put, Fits, Kept, Stepped, next, fault}
-use Rattle.btor2.specs.laws.Reached.{Reached, more}
+use Rattle.btor2.specs.inner.Taking.{overfull, roots_after, RootIf, Kept, Stepped, next}
+use Rattle.btor2.specs.laws.Reached.{more}
 use Rattle.btor2.specs.laws.Entry.{known_snoc_new, known_snoc_old, known_snoc_other, at_snoc_new, at_snoc_old, find_other, find_new}
-use Rattle.btor2.specs.laws.Passed.{else_first, else_second, Formed, formed}
-use Rattle.btor2.specs.laws.Alias.{alias_empty}
-use Rattle.btor2.specs.laws.Sound.{Sound, reached_sound, Role, makes_sort, makes_input, makes_a_value, makes_a_root, role, find_blank}
-use Rattle.spelling.specs.laws.Spell.{new_length}
-use Rattle.btor2.specs.laws.Read.{id_is, unknown_is, width_most, misfit_is, new_is, standing_is}
+use Rattle.btor2.specs.laws.Sound.{Sound, Role, makes_sort, makes_input, makes_a_value, makes_a_root, find_blank}
 use Rattle.spelling.specs.laws.Written.{all_long, all_append, prefix_grows}
-use Rattle.btor2.specs.laws.Place.{room_left}
 
 -- ---- lines without tokens
 
@@ -59,7 +46,7 @@ blank_line l e = by (tokens l) refl
     by (t ∷ ts) q = absurd (head_some _ t ts q (rw q at e))
 
 module _ {room : ℕ} {σ : State} {ls : List (List ℕ)} {n : Counts} {bytes ids places rooted : List ℕ} (K : Kept room σ ls n bytes ids places rooted) where
-  pub step_blank : (l : List ℕ) (t : Token) → t ≡ token (tokens l) 0 → length t ≡ 0 → Stepped room σ ls l bytes ids places rooted (Next n)
+  pub step_blank : (l : List ℕ) (t : Token) → t ≡ token (tokens l) 0 → length t ≡ 0 → Stepped room σ ls l bytes ids places rooted (Ok n)
   unfolding line_fault after_line
   step_blank l t q z =
       let e = blank_line l (rw q at z) in

@@ -1,28 +1,20 @@
 -- A text's world and the nodes' values, line by line: what lines say of values is what their nodes have, and demands are met exactly if roots are.
-use Rattle.std.specs.Prelude.{◌≡◌, refl, Bool, cond, not, ◌&&◌, ◌||◌, ◌↔◌, T, eqb, ltb, leb, length, get_or, drop}
-use Rattle.std.proofs.Common.{sym, ap, ◌∙◌, arith, add-zero, length-append, length-drop, get_or-append-add, drop-drop, get_or-drop, eqb-true, eq-eqb, ne_eqb}
+use Rattle.std.specs.Prelude.{◌≡◌, refl, Bool, cond, ◌↔◌, eqb, length, get_or, drop}
+use Rattle.std.proofs.Common.{ap, ◌∙◌, arith, add-zero, length-append, get_or-append-add, drop-drop, eqb-true}
 use Rattle.std.proofs.Math.Bool.{true, false}
-use Rattle.std.proofs.lemmas.Bool.{false≢true, eqb-false, not-false}
-use mathlib.Core.List.{List, [], ◌∷◌, ◌++◌, map, append_assoc, append-nil}
-use Prim.Native.Nat.{ℕ, zero, suc, ◌+◌, ◌-◌, ◌*◌, ◌/◌, ◌%◌, ◌^◌, ◌≤◌, ◌<◌}
+use Rattle.std.proofs.lemmas.Bool.{false≢true, not-false}
+use mathlib.Core.List.{List, [], ◌∷◌, ◌++◌, map}
+use Prim.Native.Nat.{ℕ, zero, suc, ◌+◌, ◌<◌}
 use Rattle.std.proofs.Math.ListN.{get_or-append}
-use Rattle.std.proofs.Math.Seq.{append_snoc, get_or-append_seam, drop-append_seam}
 use Rattle.problem.specs.declared.layout.Node.{Node}
-use Rattle.lines.specs.declared.table.Makes.{Makes}
-use Rattle.lines.specs.declared.table.Makes.TheVariants.{Sort, Input, Value, Root}
-use Rattle.spelling.specs.declared.line.Operand.{Operand}
-use Rattle.lines.specs.Lines.{Token, token, tokens}
-use Rattle.lines.specs.Words.{Word, number_of, word_of, shape}
-use Rattle.lines.specs.Format.{Ref, Constant, Item, item_of, item}
-use Rattle.spelling.specs.Nodes.{operator, constant_node, variable_node, invert, constant_value, fits, own, nots, placed, is_root}
-use Rattle.btor2.specs.Conversion.{Table, State, known, at, width_in, operand_of, operands, width_of, any_unknown, new_nodes, node_for, with_root, naming, added, after}
-use Rattle.btor2.specs.Meaning.{is_minus, moved, flipped, worth, Valued, nothing, World, sort_of, line_of, under, operand, value_of, valued, told, AllOne}
+use Rattle.lines.specs.Format.{Ref}
+use Rattle.spelling.specs.Nodes.{invert, nots, placed, is_root}
+use Rattle.btor2.specs.Conversion.{State, known, at, width_in, operand_of, operands, any_unknown, with_root}
+use Rattle.btor2.specs.Meaning.{flipped, Valued, World, sort_of, line_of, under, operand, AllOne}
 use Rattle.nodes.specs.Problem.{by_kind}
 use Rattle.btor2.specs.Inputs.{inputs_of}
-use Rattle.lines.specs.inner.Told.{id_of}
 use Rattle.btor2.specs.laws.Meant.{StandsIn, AtIn}
 use Rattle.btor2.specs.laws.Chain.{known_first, known_rest}
-use Rattle.btor2.specs.laws.Entry.{known_snoc_new, known_snoc_old, known_snoc_other, at_snoc_new, at_snoc_old, at_snoc_other, at_unknown}
 
 -- what holds of a state and a world after the same lines, under the values vs of the nodes ns that all lines make
 pub record Tied (ns : List Node) (vs : List ℕ) (σ : State) (W : World) : Type 0 where

@@ -1,45 +1,38 @@
 -- The world after a line, tied to the state after it.
 use Rattle.std.proofs.Math.Path.{◌≡◌, refl, sym}
-use Rattle.std.proofs.Common.{ap, ◌∙◌, append_assoc, append-nil, ⊎_elim, add-zero, length-append, length-drop, get_or-append-add, drop-drop, get_or-drop}
-use Rattle.std.specs.Prelude.{Bool, true, cond, not, ◌&&◌, ◌||◌, List, [], ◌∷◌, ◌++◌, map, ◌↔◌, ℕ, zero, suc, ◌+◌, ◌-◌, ◌*◌, ◌/◌, ◌%◌, ◌^◌, ◌≤◌, ◌<◌, T, ltb, leb, get_or, drop}
+use Rattle.std.proofs.Common.{ap, ◌∙◌, append_assoc, append-nil, ⊎_elim, length-append}
+use Rattle.std.specs.Prelude.{Bool, true, cond, ◌||◌, List, [], ◌∷◌, ◌++◌, ℕ, suc, ◌+◌, ◌-◌, ◌^◌, ◌≤◌, ◌<◌, get_or}
 use Rattle.std.proofs.Math.Bool.{false}
 use Rattle.std.proofs.lemmas.Bool.{false≢true}
 use Rattle.words.specs.laws.Bits.{lt_or_ge}
 use native.Mathlib.Omega.{arith}
 use Rattle.std.proofs.Math.Dec.{eqb}
-use Rattle.std.proofs.Math.ListN.{length, get_or-append}
-use Rattle.std.proofs.Math.Seq.{append_snoc, get_or-append_seam, drop-append_seam}
-use borrow.Author.Tests.{eqb-true, eqb-false, eq-eqb, ne_eqb, not-false, ltb-false, ltb-true}
-use Rattle.operators.specs.Meaning.{flag, choose}
+use Rattle.std.proofs.Math.ListN.{length}
+use borrow.Author.Tests.{eqb-true, ne_eqb}
 use Rattle.problem.specs.declared.layout.Node.{Node}
 use Rattle.lines.specs.declared.table.Makes.{Makes}
-use Rattle.lines.specs.declared.table.Makes.TheVariants.{Sort, Input, Value, Root}
+use Rattle.lines.specs.declared.table.Makes.TheVariants.{Value}
 use Rattle.spelling.specs.declared.forms.Form.{Form}
 use Rattle.spelling.specs.declared.forms.Form.TheVariants as form
 use Rattle.spelling.specs.declared.line.Operand.{Operand}
-use Rattle.lines.specs.Lines.{Token, token, tokens}
+use Rattle.lines.specs.Lines.{Token, token}
 use Rattle.lines.specs.Words.{Word, sort, input, zeros, one, ones, const, constd, consth, inv, conj, disj, xor, add, sub, mul, sll, srl, sra, eq, neq, ult, slt, ite, concat, slice, uext, sext, constraint, other, number_of, word_of, shape}
-use Rattle.lines.specs.Format.{Ref, ref_of, refs_from, Constant, is_constant, constant_of, constant_place, Item, item_of, item}
-use Rattle.spelling.specs.Nodes.{operator, constant_node, variable_node, invert, constant_value, fits, own, nots, placed, is_root}
-use Rattle.btor2.specs.Conversion.{Table, State, known, at, width_in, operand_of, operands, width_of, any_unknown, new_nodes, node_for, with_root, naming, added, after}
-use Rattle.btor2.specs.Meaning.{is_minus, moved, flipped, worth, Valued, nothing, World, sort_of, line_of, under, operand, value_of, valued, told, AllOne}
-use Rattle.nodes.specs.Problem.{by_kind}
+use Rattle.lines.specs.Format.{ref_of, refs_from, Constant, is_constant, constant_of, item_of, item}
+use Rattle.spelling.specs.Nodes.{operator, constant_node, invert, constant_value, fits, own, nots, placed}
+use Rattle.btor2.specs.Conversion.{State, at, width_in, operands, width_of, new_nodes, node_for}
+use Rattle.btor2.specs.Meaning.{is_minus, worth, World, operand, value_of}
 use Rattle.btor2.specs.Inputs.{inputs_of, variable_widths}
 use Rattle.btor2.specs.inner.Values.{Gives, Kinds, Evaluated, Fitting}
-use Rattle.lines.specs.inner.Told.{id_of}
-use Rattle.spelling.specs.inner.Spelled.{form_of, kind_for, or_nodes, sub_nodes, neq_nodes, uext_nodes, spelled_by, own_count}
+use Rattle.spelling.specs.inner.Spelled.{form_of, or_nodes, sub_nodes, neq_nodes, uext_nodes, spelled_by, own_count}
 use Rattle.spelling.specs.laws.Rule.{own_form}
-use Rattle.btor2.specs.laws.Entry.{known_snoc_new, known_snoc_old, known_snoc_other, at_snoc_new, at_snoc_old, at_snoc_other, at_unknown}
 use Rattle.spelling.specs.laws.Constant.{not_signed}
-use Rattle.btor2.specs.laws.Passed.{Formed, Passes, passes}
+use Rattle.btor2.specs.laws.Passed.{Formed, Passes}
 use Rattle.btor2.specs.laws.Alias.{own_count_lem, makes_some, ext_shape}
 use Rattle.btor2.specs.laws.Sound.{Sound, Role, makes_sort, makes_input, makes_a_value, makes_a_root, role}
-use Rattle.btor2.specs.laws.Step.{sort_none, added_nodes}
 use Rattle.btor2.specs.laws.Built.{AllBuilt, Ops, width_before}
-use Rattle.btor2.specs.laws.Chain.{has_sort}
-use Rattle.btor2.specs.laws.Fine.{Fine, refs_long, operands_in, sort_some, stands_by, item_word, item_made, item_constant}
-use Rattle.btor2.specs.laws.Meant.{StandsIn, AtIn, not_value, own_means, in_range}
-use Rattle.btor2.specs.laws.Tied.{Tied, one_with, NoVariable, inputs_past, at_split, at_new, at_head, Has, operand_has, stands_width}
+use Rattle.btor2.specs.laws.Fine.{refs_long, operands_in, sort_some, stands_by, item_word}
+use Rattle.btor2.specs.laws.Meant.{StandsIn, AtIn, not_value, own_means}
+use Rattle.btor2.specs.laws.Tied.{Tied, NoVariable, at_split, at_new, Has, operand_has, stands_width}
 
 -- ---- only the operands that a keyword has bear on a line's value
 
@@ -148,25 +141,25 @@ unless_last : (t : Bool) (ms : List Node) (w : ℕ) → (get_or ms (length ms - 
 unless_last true ms w e h = absurd (omega arith)
 unless_last false ms w e h = e
 
-last_spelled : (f : Form) (kind w n a b c p q v : ℕ) → 0 < length (spelled_by f kind w n a b c p q v)
-    → (get_or (spelled_by f kind w n a b c p q v) (length (spelled_by f kind w n a b c p q v) - 1) (invert 0 0)).width ≡ w
+last_spelled : (f : Form) (w n a b c p q v : ℕ) → 0 < length (spelled_by f w n a b c p q v)
+    → (get_or (spelled_by f w n a b c p q v) (length (spelled_by f w n a b c p q v) - 1) (invert 0 0)).width ≡ w
 unfolding spelled_by or_nodes sub_nodes neq_nodes uext_nodes
-last_spelled form.Nothing kind w n a b c p q v h = absurd (omega arith)
-last_spelled form.Variable kind w n a b c p q v h = refl
-last_spelled form.Constant kind w n a b c p q v h = refl
-last_spelled form.Plain kind w n a b c p q v h = refl
-last_spelled form.Slice kind w n a b c p q v h = refl
-last_spelled form.Or kind w n a b c p q v h = refl
-last_spelled form.Sub kind w n a b c p q v h = refl
-last_spelled form.Neq kind w n a b c p q v h = refl
-last_spelled form.Uext kind w n a b c p q v h = unless_last (eqb p 0) (uext_nodes w n a p) w refl h
-last_spelled form.Sext kind w n a b c p q v h = unless_last (eqb p 0) (operator 16 w a 0 0 ∷ []) w refl h
+last_spelled form.Nothing w n a b c p q v h = absurd (omega arith)
+last_spelled form.Variable w n a b c p q v h = refl
+last_spelled form.Constant w n a b c p q v h = refl
+last_spelled (form.Plain kind) w n a b c p q v h = refl
+last_spelled form.Slice w n a b c p q v h = refl
+last_spelled form.Or w n a b c p q v h = refl
+last_spelled form.Sub w n a b c p q v h = refl
+last_spelled form.Neq w n a b c p q v h = refl
+last_spelled form.Uext w n a b c p q v h = unless_last (eqb p 0) (uext_nodes w n a p) w refl h
+last_spelled form.Sext w n a b c p q v h = unless_last (eqb p 0) (operator 16 w a 0 0 ∷ []) w refl h
 
 last_width : (k : Word) (w n a b c p q v : ℕ) → 0 < length (own k w n a b c p q v)
     → (get_or (own k w n a b c p q v) (length (own k w n a b c p q v) - 1) (invert 0 0)).width ≡ w
 last_width k w n a b c p q v h =
     let e = own_form k w n a b c p q v in
-    rw e (last_spelled (form_of k) (kind_for k) w n a _ _ p q _ (rw e at h))
+    rw e (last_spelled (form_of k) w n a _ _ p q _ (rw e at h))
 
 -- ---- small laws
 

@@ -1,7 +1,6 @@
 -- "Output bytes are always acceptable to the search."
 use Rattle.std.specs.Prelude.{◌≡◌, List, ℕ}
-use Rattle.problem.specs.declared.Checked.TheVariants.{Accepted}
-use Rattle.problem.specs.Refusals.{checked}
+use Rattle.problem.specs.Refusals.{Accepted, checked}
 use Rattle.btor2.specs.Conversion.{State, converted, outcome, bytes_of}
 use Rattle.btor2.specs.laws.Reached.{outcome_reached}
 use Rattle.btor2.specs.laws.Sound.{reached_sound}

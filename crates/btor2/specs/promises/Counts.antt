@@ -1,7 +1,7 @@
 -- "or in 4 nodes (not, not, and, not), sub in 3 (not, add, not), neq and uext in 2, each negative reference in one not more; uext and sext by
 -- 0 add none, nor does a constraint beyond that not; other node lines one."
 use Rattle.std.specs.Prelude.{◌≡◌, refl, Bool, true, false, cond, List, [], ◌∷◌, ℕ, ◌+◌, eqb, length}
-use Rattle.std.proofs.Common.{ap, ◌∙◌, arith, length-append}
+use Rattle.std.proofs.Common.{◌∙◌, arith, length-append}
 use Rattle.lines.specs.Words.{Word, sort, input, zeros, one, ones, const, constd, consth, inv, conj, disj, xor, add, sub, mul, sll, srl, sra, eq, neq, ult, slt, ite, concat, slice, uext, sext, constraint, other}
 use Rattle.lines.specs.Format.{Ref, Item}
 use Rattle.spelling.specs.Nodes.{invert, nots}

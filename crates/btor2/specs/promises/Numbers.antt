@@ -1,18 +1,16 @@
 -- Which numbers a conversion tells, and that the line it names is one of the text.
-use Rattle.std.specs.Prelude.{◌≡◌, refl, Bool, true, false, cond, not, ◌||◌, List, [], ◌∷◌, ◌++◌, ℕ, zero, suc, ◌+◌, ◌≤◌, ◌<◌, eqb, leb, length}
+use Rattle.std.specs.Prelude.{◌≡◌, refl, Bool, true, false, cond, not, ◌||◌, List, [], ◌∷◌, ◌++◌, ℕ, suc, ◌+◌, ◌≤◌, ◌<◌, eqb, leb, length}
 use Rattle.std.proofs.Common.{sym, ap, ◌∙◌, ⊎_elim, arith, length-append}
 use Rattle.words.specs.laws.Bits.{lt_or_ge}
 use Rattle.texts.specs.Runs.{ascii, equal, is_feed, onto, split}
 use Rattle.lines.specs.declared.table.Makes.{Makes}
 use Rattle.lines.specs.declared.table.Makes.TheVariants.{Sort, Input, Value, Root}
-use Rattle.btor2.specs.declared.Converted.{Converted}
-use Rattle.btor2.specs.declared.Converted.TheVariants.{Done, Refused}
 use Rattle.lines.specs.Lines.{Token, token, lines, tokens}
 use Rattle.lines.specs.Words.{number_of as word_number, word_of, shape}
 use Rattle.lines.specs.Format.{◌or_else◌, given, is_word, is_id, id_wrong, bitvec_fault, sort_fault, arguments_wrong, format_fault}
 use Rattle.btor2.specs.Conversion.{State, line_fault, Outcome, converted, refused, outcome}
-use Rattle.btor2.specs.Answer.{Answers, done, refuses, Converts, number_of, line_of}
-use Rattle.btor2.specs.promises.Order.{FirstFault, refused_exactly, refused_before, Told, format, ids, widths, space, passes, in_order}
+use Rattle.btor2.specs.Answer.{Converted, Answers, done, refuses, Converts, number_of, line_of}
+use Rattle.btor2.specs.promises.Order.{refused_exactly, refused_before, Told, format, ids, widths, space, passes, in_order}
 
 -- ---- numbers
 
@@ -110,6 +108,6 @@ convert_numbered text before after {r} c = by (outcome (length before) text) r r
   where
     by : (o : Outcome) (r : Converted) → outcome (length before) text ≡ o → Answers before after o r → Numbered text r
     by (converted σ) r e (done w) = record { most = omega arith; at_line = omega arith }
-    by (refused n k) r e (refuses w) =
+    by (refused n k) r e (refuses a b w) =
         let f = refused_few (length before) text n k e in
-        record { most = f.0; at_line = f.1 }
+        record { most = rw a f.0; at_line = rw b f.1 }

@@ -1,10 +1,9 @@
 -- "Refusals: the first line that fails is named, in the order 1 .. 5"; and none is given otherwise.
-use Rattle.std.specs.Prelude.{◌≡◌, refl, Bool, true, false, cond, List, [], ◌∷◌, ◌++◌, ◌↔◌, ℕ, zero, suc, ◌+◌, ◌≤◌, ◌<◌, ltb, eqb, length}
-use Rattle.std.proofs.Common.{sym, ap, ◌∙◌, arith, lt-ltb, le-ltb, ltb-true, ltb-false, eq-eqb, ne_eqb, eqb-true}
-use Rattle.std.proofs.lemmas.Bool.{eqb-false}
+use Rattle.std.specs.Prelude.{◌≡◌, refl, Bool, true, false, cond, List, [], ◌∷◌, ◌++◌, ◌↔◌, ℕ, zero, suc, ◌+◌, ◌≤◌, ◌<◌, eqb, length}
+use Rattle.std.proofs.Common.{sym, ap, ◌∙◌, arith, lt-ltb, le-ltb, ne_eqb}
 use Rattle.lines.specs.Lines.{Token, lines, tokens}
-use Rattle.lines.specs.Format.{◌or_else◌, given, format_fault, Item, item}
-use Rattle.btor2.specs.Conversion.{State, start, id_fault, misfit, too_much, after, item_fault, line_fault, after_line, Outcome, converted, refused, convert_from, outcome}
+use Rattle.lines.specs.Format.{◌or_else◌, format_fault, item}
+use Rattle.btor2.specs.Conversion.{State, start, id_fault, misfit, too_much, after, item_fault, line_fault, after_line, converted, refused, convert_from, outcome}
 use Rattle.btor2.specs.laws.Reached.{fold_more, fold_stops}
 
 -- ---- the first line that fails

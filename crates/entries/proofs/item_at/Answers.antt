@@ -1,19 +1,12 @@
--- The two widths, and the value.
-use Rattle.std.proofs.Common.{◌∙◌}
-use Rattle.entries.specs.laws.Numbers.{misfits_is, width_most}
+-- The word as code finds it: it fits, it does not, and 64 bits do not hold it.
+use Rattle.entries.specs.laws.Numbers.{word_fits, word_unfit, word_huge, width_most}
 use Rattle.entries.proofs.item_at.Goals as goal
 
-pub value_width-said-requires : goal.value_width-said-requires
-value_width-said-requires c = c.requires.1
+pub returns-in_default : goal.returns-in_default
+returns-in_default c = word_huge _ _ _ _ _ c.value_at.ensures c.in_default.is (width_most _)
 
-pub value_at-n-requires : goal.value_at-n-requires
-value_at-n-requires c = c.requires.1
+pub returns-then-fits : goal.returns-then-fits
+returns-then-fits c = word_fits _ _ _ _ _ c.value_at.ensures _ _ _ _ c.in-Some.is c.sort_at.ensures c.value_width.ensures c.over_width.ensures (rw c.from-wide.ensures at c.if-fits.true)
 
-pub sort_at-requires : goal.sort_at-requires
-sort_at-requires c = c.requires.0
-
-pub overflow-requires : goal.overflow-requires
-overflow-requires c = rw c.value_width-said.ensures (width_most _)
-
-pub returns : goal.returns
-returns c = record { unfit = misfits_is _ _ _ _ _ _ c.sort_at.ensures c.value_width-said.ensures c.value_at-n.ensures c.overflow.ensures (width_most _); word = c.word_of-word.ensures ∙ rw c.value_at-n.ensures }
+pub returns-else-fits : goal.returns-else-fits
+returns-else-fits c = word_unfit _ _ _ _ _ c.value_at.ensures _ _ _ _ c.in-Some.is c.sort_at.ensures c.value_width.ensures c.over_width.ensures (rw c.from-wide.ensures at c.if-fits.false)

@@ -1,19 +1,14 @@
 -- What the inner functions ask and answer, in terms of the definitions: the places of tokens, names and entries. (Not needed to
 -- read what is promised.)
-use Rattle.std.specs.Prelude.{◌≡◌, ℕ, zero, suc, ◌+◌, ◌-◌, ◌*◌, ◌%◌, ◌^◌, ◌<◌, ◌≤◌, min, Bool, true, false, cond, List, [], ◌∷◌, ◌++◌, length, drop, ◌==◌, ◌≢◌, nat_le, slice_index, slice_index_or, slice_range, slice_set}
-use Rattle.texts.specs.declared.numbers.Number.{Number}
-use Rattle.texts.specs.declared.numbers.Number.TheVariants.{Small, Huge}
+use Rattle.std.specs.Prelude.{◌≡◌, ℕ, zero, suc, ◌+◌, ◌-◌, ◌*◌, ◌%◌, ◌^◌, ◌<◌, ◌≤◌, min, Bool, true, false, cond, List, [], ◌∷◌, ◌++◌, length, drop, ◌==◌, ◌≢◌, nat_le, nat_lt, slice_index, slice_index_or, slice_range, slice_set, fold, Option, Some, None, Result, Ok, Err}
 use Rattle.texts.specs.Runs.{ascii, equal}
 use Rattle.texts.specs.Numbers.{numbered}
 use Rattle.entries.specs.declared.names.NameLine.{NameLine}
 use Rattle.entries.specs.declared.Slot.{Slot}
-use Rattle.entries.specs.declared.Passed.{Passed}
-use Rattle.entries.specs.declared.Passed.TheVariants as passes
 use Rattle.entries.specs.declared.Places.{Places}
-use Rattle.entries.specs.declared.Item.{Item}
 use Rattle.entries.specs.Tokens.{piece_length, is_gap, tokens}
-use Rattle.entries.specs.Names.{is_barred, line_length, names}
-use Rattle.entries.specs.Entries.{width_said, heading, literal, decimal, matches, entry_size, misfits, value_width, value_said, body, left_in}
+use Rattle.entries.specs.Names.{is_barred, line_length, names, position}
+use Rattle.entries.specs.Entries.{Entry, width_said, heading, literal, decimal, matches, entry_size, misfits, value_width, value_said, body, left_in}
 
 -- ---- tokens.rt
 
@@ -88,15 +83,19 @@ pub record NamedAt (list : List ℕ) (k from to : ℕ) : Type 0 where
   pub name : part list from to ≡ slice_index_or (names list) k []
 
 -- the first k names stand where two lists of places say
-unfoldable pub Placed : List ℕ → List ℕ → List ℕ → ℕ → Type 0
+abbrev pub Placed : List ℕ → List ℕ → List ℕ → ℕ → Type 0
 Placed list froms tos k = (j : ℕ) → j < k → NamedAt list j (slice_index froms j) (slice_index tos j)
 
--- the places of a list's names in lists of 1,024: how many there are, and 1,025 where there are more
-pub record Listed (list froms tos : List ℕ) (r : ℕ) : Type 0 where
+-- how many names there are, where there are at most 1,024
+abbrev pub counted : ℕ → Option ℕ
+counted n = cond (nat_le n 1024) (Some n) None
+
+-- the places of a list's names in lists of 1,024, and how many there are
+pub record Listed (list froms tos : List ℕ) (r : Option ℕ) : Type 0 where
   pub froms_room : length froms ≡ 1024
   pub tos_room : length tos ≡ 1024
-  pub count : r ≡ min (length (names list)) 1025
-  pub placed : r ≤ 1024 → Placed list froms tos r
+  pub count : r ≡ counted (length (names list))
+  pub placed : (k : ℕ) → r ≡ Some k → Placed list froms tos k
 
 -- the first k of a list written over, each by its number
 unfoldable pub filled : (ℕ → ℕ) → ℕ → List ℕ → List ℕ
@@ -116,7 +115,7 @@ pub record Written (list froms tos froms' tos' : List ℕ) (k : ℕ) : Type 0 wh
   pub tos_are : tos' ≡ tos_up list k tos
 
 -- the two lists before, and after all names were read
-abbrev pub Lists : List ℕ → List ℕ → List ℕ → List ℕ → List ℕ → ℕ → Type 0
+abbrev pub Lists : List ℕ → List ℕ → List ℕ → List ℕ → List ℕ → Option ℕ → Type 0
 Lists list froms tos froms' tos' r =
     Listed list froms' tos' r × Written list froms tos froms' tos' (min (length (names list)) 1024)
 
@@ -128,7 +127,7 @@ pub record Named (list froms tos : List ℕ) (count : ℕ) : Type 0 where
   pub placed : Placed list froms tos count
 
 -- a number that is the same of names that are the same, in 64 bits
-unfoldable pub digest_more : ℕ → ℕ → ℕ
+abbrev pub digest_more : ℕ → ℕ → ℕ
 digest_more d b = (d * 11400714819323198485 % 2 ^ 64 + b) % 2 ^ 64
 
 unfoldable pub digest_from : ℕ → List ℕ → ℕ
@@ -136,10 +135,10 @@ digest_from d [] = d
 digest_from d (b ∷ s) = digest_from (digest_more d b) s
 
 unfoldable pub digest_of : List ℕ → ℕ
-digest_of s = digest_from 0 s
+digest_of s = fold digest_more 0 s
 
 -- the digests of the first k names of a list
-unfoldable pub Digested : List ℕ → List ℕ → ℕ → Type 0
+abbrev pub Digested : List ℕ → List ℕ → ℕ → Type 0
 Digested list digests k = (j : ℕ) → j < k → slice_index digests j ≡ digest_of (slice_index_or (names list) j [])
 
 -- the first k digests written; the other places are as they were
@@ -152,6 +151,10 @@ pub record Indexed (list froms tos digests : List ℕ) (count : ℕ) : Type 0 wh
   pub room : count ≤ length digests
   pub digested : Digested list digests count
 
+-- where a name stands first in a list of names, if it does
+unfoldable pub place_in : List ℕ → List (List ℕ) → Option ℕ
+place_in n ns = cond (nat_lt (position n ns) (length ns)) (Some (position n ns)) None
+
 -- ---- lib.rt
 
 -- the slots of an entry, as code has them: those of `heading`, `literal` and `decimal`
@@ -163,9 +166,9 @@ abbrev pub matches_part : List ℕ → ℕ → ℕ → ℕ → Bool
 matches_part text at first last = matches (slice_range form first last) (tokens (drop at text))
 
 -- what a walk over slots first to last from a place on tells
-abbrev pub PassedBy : List ℕ → ℕ → ℕ → ℕ → Passed → Type 0
-PassedBy text at first last (passes.After p) = (matches_part text at first last ≡ true) × After text at (last - first) p
-PassedBy text at first last passes.Not = matches_part text at first last ≡ false
+abbrev pub PassedBy : List ℕ → ℕ → ℕ → ℕ → Option ℕ → Type 0
+PassedBy text at first last (Some p) = (matches_part text at first last ≡ true) × After text at (last - first) p
+PassedBy text at first last None = matches_part text at first last ≡ false
 
 -- the places of the parts of an entry that begins at `at`
 pub record Parts (text : List ℕ) (at : ℕ) (r : Places) : Type 0 where
@@ -174,7 +177,7 @@ pub record Parts (text : List ℕ) (at : ℕ) (r : Places) : Type 0 where
   pub value : After text at 10 r.value
   pub end : After text at r.size r.end
 
--- the places of such an entry, and of none
+-- the places of such an entry, where there is one
 abbrev pub places_of : List ℕ → ℕ → ℕ → Places
 places_of text at size = record {
   name = place_after text at 2;
@@ -184,37 +187,58 @@ places_of text at size = record {
   size = size;
 }
 
-abbrev pub nowhere : Places
-nowhere = record { name = 0; sort = 0; value = 0; end = 0; size = 0 }
+unfoldable pub places_at : List ℕ → ℕ → ℕ → Option Places
+places_at text at size = cond (size == 0) None (Some (places_of text at size))
 
-unfoldable pub places_at : List ℕ → ℕ → ℕ → Places
-places_at text at size = cond (size == 0) nowhere (places_of text at size)
+-- an entry that begins at `at`
+pub record Found (text : List ℕ) (at : ℕ) (p : Places) : Type 0 where
+  pub size : p.size ≡ entry_size (tokens (drop at text))
+  pub some : (p.size ≢ 0)
+  pub parts : Parts text at p
 
-pub record EntryAt (text : List ℕ) (at : ℕ) (r : Places) : Type 0 where
+pub record EntryAt (text : List ℕ) (at : ℕ) (r : Option Places) : Type 0 where
   pub exactly : r ≡ places_at text at (entry_size (tokens (drop at text)))
-  pub size : r.size ≡ entry_size (tokens (drop at text))
-  pub parts : (r.size ≢ 0) → Parts text at r
+  pub none : r ≡ None → 0 ≡ entry_size (tokens (drop at text))
+  pub found : (p : Places) → r ≡ Some p → Found text at p
 
 -- whether a number, as far as 64 bits tell it, is too large for a width
-abbrev pub overflows : Number → ℕ → Bool
-overflows (Small v) w = nat_le (2 ^ w) v
-overflows Huge w = true
+abbrev pub overflows : Option ℕ → ℕ → Bool
+overflows (Some v) w = nat_le (2 ^ w) v
+overflows None w = true
 
 -- the number itself, or 0 where 64 bits do not hold it
-abbrev pub small : Number → ℕ
-small (Small v) = v
-small Huge = 0
+abbrev pub small : Option ℕ → ℕ
+small (Some v) = v
+small None = 0
 
--- what a sort's width and a value say to a variable of so many bits
+-- a value as 64 bits tell it: itself, or 0 where they do not hold it
+abbrev pub word_of : Entry → ℕ
+word_of e = small (numbered e.value)
+
+-- what an entry says to a variable of so many bits: its word, by `Err` where the entry misfits
+abbrev pub told_to : ℕ → Entry → Result ℕ ℕ
+told_to w e = cond (misfits w e) (Err (word_of e)) (Ok (word_of e))
+
+-- the word itself, whether it fits or not
+abbrev pub word_in : Result ℕ ℕ → ℕ
+word_in (Ok v) = v
+word_in (Err v) = v
+
+-- the same to a variable that takes only what fits it: its value, unless it misfits
+abbrev pub word_for : ℕ → Entry → Option ℕ
+word_for w e = cond (misfits w e) None (Some e.value)
+
+-- what a sort's width and a value at two places say: an entry, its name aside
 abbrev pub sort_said : List ℕ → ℕ → ℕ
 sort_said text sort = width_said (slice_index_or (tokens (drop sort text)) 0 [])
 
-pub record ItemAt (text : List ℕ) (sort value w : ℕ) (r : Item) : Type 0 where
-  pub unfit :
-      r.unfit
-      ≡ misfits w
-      (record { name = []; sort = sort_said text sort; width = value_width (tokens (drop value text)); value = value_said (tokens (drop value text)) })
-  pub word : r.word ≡ small (numbered (value_said (tokens (drop value text))))
+abbrev pub entry_said : List ℕ → ℕ → ℕ → Entry
+entry_said text sort value =
+    record { name = []; sort = sort_said text sort; width = value_width (tokens (drop value text)); value = value_said (tokens (drop value text)) }
+
+-- and what these say to a variable of so many bits
+unfoldable pub item_said : List ℕ → ℕ → ℕ → ℕ → Result ℕ ℕ
+item_said text sort value w = told_to w (entry_said text sort value)
 
 -- where the entries begin, and where they end
 pub record Begins (text : List ℕ) (r : ℕ) : Type 0 where

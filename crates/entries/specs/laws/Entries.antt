@@ -1,24 +1,22 @@
 -- Laws of entries: slots matched one by one, and what an entry at a place says.
-use Rattle.std.specs.Prelude.{◌≡◌, ℕ, zero, suc, ◌+◌, ◌-◌, ◌<◌, ◌≤◌, Bool, true, false, cond, ◌&&◌, List, [], ◌∷◌, ◌++◌, length, take, drop, ◌==◌, ◌≢◌, nat_lt, slice_index_or, slice_range, refl}
+use Rattle.std.specs.Prelude.{◌≡◌, ℕ, zero, suc, ◌+◌, ◌-◌, ◌<◌, ◌≤◌, Bool, true, false, cond, ◌&&◌, List, [], ◌∷◌, ◌++◌, length, take, drop, ◌==◌, ◌≢◌, nat_lt, slice_index_or, slice_range, refl, Option, Some, None, Result, Ok, is_err}
+use Rattle.std.specs.Result.{result_ok}
 use Rattle.std.proofs.Common.{sym, ◌∙◌, arith, add-one, drop-cons, drop-drop}
 use Rattle.std.proofs.Math.Path.{ap}
 use Rattle.std.proofs.Math.Dec.{eqb-suc-suc}
 use Rattle.std.proofs.Math.Seq.{drop-length}
 use borrow.Author.Tests.{lt-ltb, le-ltb, eq-eqb, ne_eqb}
 use Rattle.texts.specs.Runs.{ascii, equal}
-use Rattle.texts.specs.declared.numbers.Number.{Number}
 use Rattle.texts.specs.Numbers.{value_in, numbered}
 use Rattle.entries.specs.declared.Slot.{Slot}
 use Rattle.entries.specs.declared.Slot.TheVariants.{Opens, Literal}
 use Rattle.entries.specs.Tokens.{tokens}
 use Rattle.entries.specs.Names.{inside}
-use Rattle.entries.specs.declared.Passed.{Passed}
-use Rattle.entries.specs.declared.Passed.TheVariants as passes
 use Rattle.entries.specs.declared.Places.{Places}
-use Rattle.entries.specs.declared.Item.{Item}
 use Rattle.entries.specs.Entries.{width_said, base_of, literal_width, fits, matches, heading, literal, decimal, entry_size, value_width, value_said, entry_of, body, step_over, entries_in, left_in, is_model, misfits}
-use Rattle.entries.specs.inner.Places.{After, Begins, Ends, form, matches_part, PassedBy, Parts, place_after, nowhere, places_at, EntryAt, ItemAt, small}
+use Rattle.entries.specs.inner.Places.{After, Begins, Ends, form, matches_part, PassedBy, Parts, places_at, Found, EntryAt, small, told_to, word_in, word_for, item_said}
 use Rattle.entries.specs.Pieces.{chop}
+use Rattle.entries.specs.laws.Numbers.{width_most, told_unfit, told_word, told_exact, told_for}
 use Rattle.entries.specs.laws.Pieces.{chop_none, chop_front}
 use Rattle.entries.specs.laws.Tokens.{after_none, after_more, after_all, after_moves, token_at_lem}
 
@@ -71,11 +69,11 @@ passed_end text at first i last place a h l =
     let e : i - first ≡ last - first = omega arith in after_all text at (i - first) (last - first) place a e
 
 -- what a walk tells, by its answer
-pub passed_all : (text : List ℕ) (at first last : ℕ) (r : Passed) (p : ℕ) → PassedBy text at first last r → r ≡ passes.After p
+pub passed_all : (text : List ℕ) (at first last : ℕ) (r : Option ℕ) (p : ℕ) → PassedBy text at first last r → r ≡ Some p
     → (matches_part text at first last ≡ true) × After text at (last - first) p
 passed_all text at first last r p h e = rw e at h
 
-pub passed_not : (text : List ℕ) (at first last : ℕ) (r : Passed) → PassedBy text at first last r → r ≡ passes.Not
+pub passed_not : (text : List ℕ) (at first last : ℕ) (r : Option ℕ) → PassedBy text at first last r → r ≡ None
     → matches_part text at first last ≡ false
 passed_not text at first last r h e = rw e at h
 
@@ -123,11 +121,11 @@ module _ (text : List ℕ) (at : ℕ) where
   abbrev ts : List (List ℕ)
   ts = tokens (drop at text)
 
-  none_at : 0 ≡ entry_size ts → EntryAt text at nowhere
+  none_at : 0 ≡ entry_size ts → EntryAt text at None
   unfolding places_at
-  none_at e = record { size = e; exactly = rw (eq-eqb (entry_size ts) 0 (sym e)); parts = λ x. absurd (x refl) }
+  none_at e = record { exactly = rw (eq-eqb (entry_size ts) 0 (sym e)); none = λ _. e; found = λ p y. cc }
 
-  pub not_first : matches_part text at 0 2 ≡ false → EntryAt text at nowhere
+  pub not_first : matches_part text at 0 2 ≡ false → EntryAt text at None
   unfolding entry_size
   not_first x = none_at (rw (heading_parts ts, x))
 
@@ -135,7 +133,7 @@ module _ (text : List ℕ) (at : ℕ) where
     second : matches (slice_range form 2 8) (drop 2 ts) ≡ matches_part text name 2 8
     second = rw (← x.1.left)
 
-    pub not_second : matches_part text name 2 8 ≡ false → EntryAt text at nowhere
+    pub not_second : matches_part text name 2 8 ≡ false → EntryAt text at None
     unfolding entry_size
     not_second y = none_at (rw (heading_parts ts, x.0, second, y))
 
@@ -146,7 +144,7 @@ module _ (text : List ℕ) (at : ℕ) where
       third : matches (slice_range form 8 10) (drop 8 ts) ≡ matches_part text sort 8 10
       third = rw (← to_sort.left)
 
-      pub not_third : matches_part text sort 8 10 ≡ false → EntryAt text at nowhere
+      pub not_third : matches_part text sort 8 10 ≡ false → EntryAt text at None
       unfolding entry_size
       not_third z = none_at (rw (heading_parts ts, x.0, second, y.0, third, z))
 
@@ -164,27 +162,29 @@ module _ (text : List ℕ) (at : ℕ) where
         as_decimal = rw (← to_value.left) (sym (decimal_part (tokens (drop value text))))
 
         -- an entry of so many tokens
-        found_at : (n end : ℕ) → (n ≢ 0) → n ≡ entry_size ts → After text at n end → EntryAt text at (record { name = name; sort = sort; value = value; end = end; size = n })
+        found_at : (n end : ℕ) → (n ≢ 0) → n ≡ entry_size ts → After text at n end → EntryAt text at (Some (record { name = name; sort = sort; value = value; end = end; size = n }))
         unfolding places_at
         found_at n end some e a =
+            let f : Found text at (record { name = name; sort = sort; value = value; end = end; size = n }) =
+            record { size = e; some = some; parts = record { name = x.1; sort = to_sort; value = to_value; end = a } } in
             record {
-              size = e;
               exactly = rw (← e, ne_eqb n 0 some, ← x.1.exactly, ← to_sort.exactly, ← to_value.exactly, ← a.exactly);
-              parts = λ _. record { name = x.1; sort = to_sort; value = to_value; end = a };
+              none = λ y. cc;
+              found = λ p y. let g : ◌≡◌ {A = Places} (record { name = name; sort = sort; value = value; end = end; size = n }) p = cc in rw g at f;
             }
 
         pub with_literal : (end : ℕ) → (matches_part text value 10 12 ≡ true) × After text value 2 end
-            → EntryAt text at (record { name = name; sort = sort; value = value; end = end; size = 12 })
+            → EntryAt text at (Some (record { name = name; sort = sort; value = value; end = end; size = 12 }))
         unfolding entry_size
         with_literal end u = found_at 12 end (λ z. omega arith) (rw (headed, as_literal, u.0)) (after_more text at value end 10 2 to_value u.1)
 
         pub with_decimal : (end : ℕ) → matches_part text value 10 12 ≡ false → (matches_part text value 12 18 ≡ true) × After text value 6 end
-            → EntryAt text at (record { name = name; sort = sort; value = value; end = end; size = 16 })
+            → EntryAt text at (Some (record { name = name; sort = sort; value = value; end = end; size = 16 }))
         unfolding entry_size
         with_decimal end v u =
             found_at 16 end (λ z. omega arith) (rw (headed, as_literal, v, as_decimal, u.0)) (after_more text at value end 10 6 to_value u.1)
 
-        pub with_neither : matches_part text value 10 12 ≡ false → matches_part text value 12 18 ≡ false → EntryAt text at nowhere
+        pub with_neither : matches_part text value 10 12 ≡ false → matches_part text value 12 18 ≡ false → EntryAt text at None
         unfolding entry_size
         with_neither v u = none_at (rw (headed, as_literal, v, as_decimal, u))
 
@@ -203,12 +203,12 @@ module _ (us : List (List ℕ)) (t : List ℕ) (w : ℕ) (e : t ≡ slice_index_
   unfolding value_width
   says_other_width u v l k g = rw (fits_literal, le-ltb 0 w l) (g ∙ rw k)
 
-  pub says_value : 0 < w → (base : ℕ) (d : List ℕ) (r : Number) → base ≡ base_of t → d ≡ drop 2 t → r ≡ numbered (value_in base d)
+  pub says_value : 0 < w → (base : ℕ) (d : List ℕ) (r : Option ℕ) → base ≡ base_of t → d ≡ drop 2 t → r ≡ numbered (value_in base d)
       → r ≡ numbered (value_said us)
   unfolding value_said
   says_value l base d r p q k = k ∙ rw (fits_literal, lt-ltb 0 w l, p, q, e)
 
-  pub says_decimal : (u d : List ℕ) (r : Number) → w ≤ 0 → u ≡ slice_index_or us 2 [] → d ≡ drop 2 u → r ≡ numbered (value_in 10 d)
+  pub says_decimal : (u d : List ℕ) (r : Option ℕ) → w ≤ 0 → u ≡ slice_index_or us 2 [] → d ≡ drop 2 u → r ≡ numbered (value_in 10 d)
       → r ≡ numbered (value_said us)
   unfolding value_said
   says_decimal u d r l q p k = k ∙ rw (fits_literal, le-ltb 0 w l, p, q)
@@ -220,14 +220,27 @@ module _ (text : List ℕ) (at : ℕ) (r : Places) (p : Parts text at r) where
   unfolding entry_of
   entry_name n h = h ∙ ap inside (token_at_lem text at 2 r.name _ p.name refl)
 
-  module _ (w : ℕ) (i : Item) (h : ItemAt text r.sort r.value w i) where
-    pub entry_unfit : i.unfit ≡ misfits w (entry_of (tokens (drop at text)))
-    unfolding entry_of misfits
-    entry_unfit = h.unfit ∙ rw (p.value.left, token_at_lem text at 8 r.sort _ p.sort refl)
+  module _ (w : ℕ) (i : Result ℕ ℕ) (h : i ≡ item_said text r.sort r.value w) where
+    entry_told : i ≡ told_to w (entry_of (tokens (drop at text)))
+    unfolding entry_of item_said misfits
+    entry_told = h ∙ rw (p.value.left, token_at_lem text at 8 r.sort _ p.sort refl)
 
-    pub entry_word : i.word ≡ small (numbered (entry_of (tokens (drop at text))).value)
+    entry_width : (entry_of (tokens (drop at text))).width ≤ 64
     unfolding entry_of
-    entry_word = h.word ∙ rw p.value.left
+    entry_width = width_most (drop 10 (tokens (drop at text)))
+
+    pub entry_unfit : is_err i ≡ misfits w (entry_of (tokens (drop at text)))
+    entry_unfit = ap is_err entry_told ∙ told_unfit (entry_of (tokens (drop at text))) w
+
+    pub entry_word : word_in i ≡ small (numbered (entry_of (tokens (drop at text))).value)
+    entry_word = ap word_in entry_told ∙ told_word (entry_of (tokens (drop at text))) w
+
+    -- a word that fits is the entry's value, exactly
+    pub entry_exact : (v : ℕ) → i ≡ Ok v → v ≡ (entry_of (tokens (drop at text))).value
+    entry_exact v e = told_exact _ w v entry_width (sym entry_told ∙ e)
+
+    pub entry_for : result_ok i ≡ word_for w (entry_of (tokens (drop at text)))
+    entry_for = ap result_ok entry_told ∙ told_for (entry_of (tokens (drop at text))) w entry_width
 
 -- ---- entry by entry
 

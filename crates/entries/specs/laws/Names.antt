@@ -1,16 +1,16 @@
 -- Laws of names: bars, symbols, the lines of the list, and where a name stands in it.
-use Rattle.std.specs.Prelude.{◌≡◌, ℕ, zero, suc, ◌+◌, ◌-◌, ◌<◌, ◌≤◌, min, Bool, true, false, cond, not, ◌&&◌, ◌||◌, List, [], ◌∷◌, length, get_or, take, drop, set, ◌==◌, ◌≢◌, nat_le, nat_lt, slice_index, slice_index_or, slice_range, slice_set, refl}
+use Rattle.std.specs.Prelude.{◌≡◌, ℕ, zero, suc, ◌+◌, ◌-◌, ◌<◌, ◌≤◌, min, Bool, true, false, cond, not, ◌&&◌, ◌||◌, List, [], ◌∷◌, length, get_or, take, drop, set, ◌==◌, ◌≢◌, nat_le, nat_lt, slice_index, slice_index_or, slice_range, slice_set, fold, refl, Option, Some, None, unwrap_or, is_some}
 use Rattle.std.proofs.Math.Path.{sym, ap}
-use Rattle.std.proofs.Common.{◌∙◌, true≢false, arith, not-suc-le-zero, zero-add, add-one, length-drop, drop_of_length-le, length-take-le, drop-cons, drop-drop, take-take, le-leb, lt-ltb, le-ltb}
+use Rattle.std.proofs.Common.{◌∙◌, true≢false, arith, not-suc-le-zero, zero-add, add-one, length-drop, drop_of_length-le, length-take-le, drop-cons, drop-drop, take-take, le-leb, lt-ltb, le-ltb, ltb-true, ltb-false}
 use Rattle.std.proofs.lemmas.Bool.{false≢true, lt-leb}
 use Rattle.std.proofs.Math.Decide.{dec_lt, ℕ_discrete}
 use Rattle.std.proofs.Math.Seq.{get_or-set_same, get_or-set_other}
 use Rattle.texts.specs.Runs.{is_in, length_of_run, equal}
-use Rattle.texts.specs.laws.Runs.{run_inside, equal_same}
+use Rattle.texts.specs.laws.Runs.{run_inside, equal_same, equal_self}
 use Rattle.texts.specs.declared.runs.Class.TheVariants.{Clean, Symbol, Line}
 use Rattle.entries.specs.declared.names.NameLine.{NameLine}
 use Rattle.entries.specs.Names.{is_barred, inside, is_simple, is_quoted, is_name, line_length, names, position, is_again, some}
-use Rattle.entries.specs.inner.Places.{part, line_between, line_from, line_start, OnLine, NamedAt, Placed, Listed, filled, froms_up, tos_up, Written, Lists, Named, digest_more, digest_from, digest_of, Digested, digests_up, Indexed}
+use Rattle.entries.specs.inner.Places.{part, line_between, line_from, line_start, OnLine, NamedAt, Placed, filled, froms_up, tos_up, Written, counted, Lists, Named, digest_of, Digested, digests_up, Indexed, place_in, digest_from, digest_more}
 use Rattle.entries.specs.laws.Pieces.{drop_min, chop_none, chop_front}
 
 -- ---- bars
@@ -167,7 +167,6 @@ module _ (list froms tos : List ℕ) (at k : ℕ) (line : NameLine) (o : OnLine 
   line_next = sym line_first.2
 
   pub line_placed : Placed list froms tos k → k < length froms → k < length tos → Placed list (slice_set froms k line.from) (slice_set tos k line.to) (k + 1)
-  unfolding Placed
   line_placed p a b j h =
       elim (ℕ_discrete j k) [
         | yes e ↦
@@ -206,38 +205,48 @@ module _ (list : List ℕ) (at k : ℕ) (line : NameLine) (o : OnLine list at li
       }
 
 pub placed_none : (list froms tos : List ℕ) → Placed list froms tos 0
-unfolding Placed
 placed_none list froms tos j h = absurd (not-suc-le-zero h)
 
 written_all : (list froms₀ tos₀ froms tos : List ℕ) (k n : ℕ) → Written list froms₀ tos₀ froms tos k → k ≡ n → Written list froms₀ tos₀ froms tos n
 written_all list froms₀ tos₀ froms tos k n w e = rw e at w
 
-pub listed_more : (list froms₀ tos₀ froms tos : List ℕ) (at k : ℕ) → Written list froms₀ tos₀ froms tos k
-    → k ≤ 1024
-    → length froms ≡ 1024
-    → length tos ≡ 1024
-    → names (drop at list) ≡ drop k (names list)
-    → 1024 ≤ k
-    → at < length list
-    → Lists list froms₀ tos₀ froms tos 1025
-listed_more list froms₀ tos₀ froms tos at k w u f t s m h =
-    let next = min (at + length_of_run (is_in Line) (drop at list) + 1) (length list) in
-    let a = lines_step list at (at + length_of_run (is_in Line) (drop at list)) next h refl refl in
-    let b : k < length (names list) = (rest_first (names list) k [] _ _ (sym s ∙ a)).0 in
-    (record { froms_room = f; tos_room = t; count = omega arith; placed = λ l. absurd (omega arith) }, written_all list froms₀ tos₀ froms tos k (min (length (names list)) 1024) w (omega arith))
+-- so many names, or more than fit
+counted_few : (n k : ℕ) → k ≡ n → k ≤ 1024 → Some k ≡ counted n
+counted_few n k e l = rw (← e, le-leb k 1024 l)
 
-pub listed_all : (list froms₀ tos₀ froms tos : List ℕ) (at k : ℕ) → Written list froms₀ tos₀ froms tos k
-    → length froms ≡ 1024
-    → length tos ≡ 1024
-    → names (drop at list) ≡ drop k (names list)
-    → Placed list froms tos k
-    → k ≤ length (names list)
-    → k ≤ 1024
-    → length list ≤ at
-    → Lists list froms₀ tos₀ froms tos k
-listed_all list froms₀ tos₀ froms tos at k w f t s p l m h =
-    let b : length (names list) - k ≡ 0 = sym (length-drop k (names list)) ∙ ap length (sym s ∙ lines_none list at h) in
-    (record { froms_room = f; tos_room = t; count = omega arith; placed = λ _. p }, written_all list froms₀ tos₀ froms tos k (min (length (names list)) 1024) w (omega arith))
+counted_many : (n : ℕ) → 1024 < n → None ≡ counted n
+counted_many n l = rw (lt-leb n 1024 l)
+
+-- after the first k names, up to the place `at`
+module _ (list froms₀ tos₀ froms tos : List ℕ) (at k : ℕ) (w : Written list froms₀ tos₀ froms tos k) (f : length froms ≡ 1024)
+    (t : length tos ≡ 1024) (s : names (drop at list) ≡ drop k (names list)) where
+  pub listed_more : 1024 ≤ k → k ≤ 1024 → at < length list → Lists list froms₀ tos₀ froms tos None
+  listed_more m u h =
+      let next = min (at + length_of_run (is_in Line) (drop at list) + 1) (length list) in
+      let a = lines_step list at (at + length_of_run (is_in Line) (drop at list)) next h refl refl in
+      let b : k < length (names list) = (rest_first (names list) k [] _ _ (sym s ∙ a)).0 in (
+        record { froms_room = f; tos_room = t; count = counted_many _ (omega arith); placed = λ j e. absurd (some_not_none j e) },
+        written_all list froms₀ tos₀ froms tos k (min (length (names list)) 1024) w (omega arith),
+      )
+    where
+      some_not_none : (j : ℕ) → ◌≡◌ {A = Option ℕ} None (Some j) → ⊥
+      some_not_none j e = false≢true (ap is_some e)
+
+  pub listed_all : Placed list froms tos k → k ≤ length (names list) → k ≤ 1024 → length list ≤ at → (r : ℕ) → r ≡ k
+      → Lists list froms₀ tos₀ froms tos (Some r)
+  listed_all p l m h r q =
+      let b : length (names list) - k ≡ 0 = sym (length-drop k (names list)) ∙ ap length (sym s ∙ lines_none list at h) in (
+        record {
+          froms_room = f;
+          tos_room = t;
+          count = counted_few _ _ (omega (arith, q)) (omega (arith, q));
+          placed = λ j e. rw (sym q ∙ some_is e) at p;
+        },
+        written_all list froms₀ tos₀ froms tos k (min (length (names list)) 1024) w (omega arith),
+      )
+    where
+      some_is : {j : ℕ} → ◌≡◌ {A = Option ℕ} (Some r) (Some j) → r ≡ j
+      some_is e = ap (λ (o : Option ℕ). unwrap_or o 0) e
 
 -- ---- where a name stands
 
@@ -253,6 +262,12 @@ module _ (n : List ℕ) (ns : List (List ℕ)) (k : ℕ) (t : Bool) (q : t ≡ e
       let f : position n (drop k ns) ≡ suc (position n (drop (suc k) ns)) = position_at n ns k h ∙ rw (← q, y) in
       rw add-one (omega (arith, f, i))
 
+  pub placed_here : t ≡ true → k < length ns → k + position n (drop k ns) ≡ position n ns → Some k ≡ place_in n ns
+  unfolding place_in
+  placed_here y h i =
+      let f : position n (drop k ns) ≡ 0 = position_at n ns k h ∙ rw (← q, y) in
+      let e : k ≡ position n ns = omega (arith, f, i) in rw (← e, lt-ltb k (length ns) h)
+
   pub position_here : t ≡ true → k < length ns → k + position n (drop k ns) ≡ position n ns → k ≡ position n ns
   position_here y h i =
       let f : position n (drop k ns) ≡ 0 = position_at n ns k h ∙ rw (← q, y) in
@@ -263,6 +278,30 @@ unfolding position
 position_over n ns k i h =
     let f : position n (drop k ns) ≡ 0 = rw (drop_of_length-le ns h) in
     omega (arith, f, i)
+
+pub placed_nowhere : (n : List ℕ) (ns : List (List ℕ)) (k : ℕ) → k + position n (drop k ns) ≡ position n ns → length ns ≤ k → None ≡ place_in n ns
+unfolding position place_in
+placed_nowhere n ns k i h =
+    let f : position n (drop k ns) ≡ 0 = rw (drop_of_length-le ns h) in
+    rw (le-ltb (position n ns) (length ns) (omega (arith, f, i)))
+
+-- a place that is told, and none
+place_told : (p n k : ℕ) (t : Bool) → nat_lt p n ≡ t → cond t (Some p) None ≡ Some k → (k ≡ p) × (k < n)
+place_told p n k true e h =
+    let f : p ≡ k = ap (λ (o : Option ℕ). unwrap_or o 0) h in (sym f, omega (arith, f, ltb-true p n e))
+place_told p n k false e h = absurd (false≢true (ap is_some h))
+
+pub place_is : (n : List ℕ) (ns : List (List ℕ)) (k : ℕ) → place_in n ns ≡ Some k → (k ≡ position n ns) × (k < length ns)
+unfolding place_in
+place_is n ns k h = place_told (position n ns) (length ns) k _ refl h
+
+no_place : (p n : ℕ) (t : Bool) → nat_lt p n ≡ t → cond t (Some p) None ≡ None → n ≤ p
+no_place p n true e h = absurd (true≢false (ap is_some h))
+no_place p n false e h = ltb-false p n e
+
+pub place_none : (n : List ℕ) (ns : List (List ℕ)) → place_in n ns ≡ None → length ns ≤ position n ns
+unfolding place_in
+place_none n ns h = no_place (position n ns) (length ns) _ refl h
 
 -- ---- some number below n
 
@@ -298,7 +337,6 @@ some_each f n h k l = by (f k) refl
 -- ---- name k by its places
 
 pub placed_at : (list froms tos : List ℕ) (count : ℕ) → Named list froms tos count → (k : ℕ) → k < count → NamedAt list k (slice_index froms k) (slice_index tos k)
-unfolding Placed
 placed_at list froms tos count n k h = n.placed k h
 
 pub part_is : (list : List ℕ) (k from to : ℕ) → NamedAt list k from to → slice_range list from to ≡ slice_index_or (names list) k []
@@ -307,9 +345,14 @@ part_is list k from to n = n.name
 
 -- ---- digests
 
+digest_is : (d : ℕ) (t : List ℕ) → digest_from d t ≡ fold digest_more d t
+unfolding digest_from
+digest_is d [] = refl
+digest_is d (b ∷ s) = digest_is (digest_more d b) s
+
 pub digest_starts : (t : List ℕ) → digest_from 0 (drop 0 t) ≡ digest_of t
 unfolding digest_of
-digest_starts t = refl
+digest_starts t = digest_is 0 t
 
 pub digest_turn : (t : List ℕ) (i d e : ℕ) → digest_from d (drop i t) ≡ digest_of t → i < length t → e ≡ digest_more d (slice_index t i)
     → digest_from e (drop (i + 1) t) ≡ digest_of t
@@ -321,13 +364,11 @@ unfolding digest_from
 digest_end t i d k h = rw (drop_of_length-le t h) at k
 
 pub digested_none : (list digests : List ℕ) → Digested list digests 0
-unfolding Digested
 digested_none list digests j h = absurd (not-suc-le-zero h)
 
 pub digested_more : (list digests : List ℕ) (k d : ℕ) (m : List ℕ) → Digested list digests k → k < length digests → m ≡ slice_index_or (names list) k []
     → d ≡ digest_of m
     → Digested list (slice_set digests k d) (k + 1)
-unfolding Digested
 digested_more list digests k d m p a e q j h =
     elim (ℕ_discrete j k) [
       | yes i ↦ rw (i, get_or-set_same digests k d 0 a) (q ∙ ap digest_of e)
@@ -356,27 +397,55 @@ pub digests_all : (list digests before : List ℕ) (k count : ℕ) → digests �
 digests_all list digests before k count p e = p ∙ ap (λ (n : ℕ). digests_up list n before) e
 
 -- names whose digests differ are not the same
-pub digests_differ : (list froms tos digests : List ℕ) (count k d : ℕ) (n : List ℕ) → Indexed list froms tos digests count → k < count
-    → d ≡ digest_of n
+pub digests_differ : (list digests : List ℕ) (count k d : ℕ) (n : List ℕ) → Digested list digests count → k < count → d ≡ digest_of n
     → (slice_index digests k ≢ d)
     → false ≡ equal (slice_index_or (names list) k []) n
-unfolding Digested
-digests_differ list froms tos digests count k d n x h q u = by (equal (slice_index_or (names list) k []) n) refl
+digests_differ list digests count k d n x h q u = by (equal (slice_index_or (names list) k []) n) refl
   where
     by : (t : Bool) → equal (slice_index_or (names list) k []) n ≡ t → false ≡ equal (slice_index_or (names list) k []) n
-    by true e = absurd (u (x.digested k h ∙ ap digest_of (equal_same (slice_index_or (names list) k []) n e) ∙ sym q))
+    by true e = absurd (u (x k h ∙ ap digest_of (equal_same (slice_index_or (names list) k []) n e) ∙ sym q))
     by false e = sym e
 
 -- ---- a name that stands earlier
 
-module _ (ns : List (List ℕ)) (k p : ℕ) (m : List ℕ) (e : m ≡ slice_index_or ns k []) (q : p ≡ position m ns) where
-  pub again_is : p < k → is_again ns k ≡ true
-  unfolding is_again
-  again_is h = rw (← e, ← q) (lt-ltb p k h)
+-- a name stands at its place, or earlier
+own_step : (n m : List ℕ) (ms : List (List ℕ)) (t : Bool) (k : ℕ) → equal m n ≡ t → (slice_index_or ms k [] ≡ n → position n ms ≤ k)
+    → slice_index_or ms k [] ≡ n
+    → cond t 0 (suc (position n ms)) ≤ suc k
+own_step n m ms true k q again e = omega arith
+own_step n m ms false k q again e = let i = again e in omega arith
 
-  pub again_not : k ≤ p → is_again ns k ≡ false
+own_place : (n : List ℕ) (ns : List (List ℕ)) (k : ℕ) → k < length ns → slice_index_or ns k [] ≡ n → position n ns ≤ k
+unfolding position
+own_place n [] k h e = absurd (not-suc-le-zero h)
+own_place n (m ∷ ms) zero h e = let q : equal m n ≡ true = rw e (equal_self n) in rw q (omega arith)
+own_place n (m ∷ ms) (suc k) h e = own_step n m ms (equal m n) k refl (own_place n ms k (omega arith)) e
+
+module _ (ns : List (List ℕ)) (k : ℕ) (m : List ℕ) (p : Option ℕ) (e : m ≡ slice_index_or ns k []) (q : p ≡ place_in m ns) (l : k < length ns) where
+  placed : p ≡ Some (position m ns)
+  unfolding place_in
+  placed = let h = own_place m ns k l (sym e) in q ∙ rw (lt-ltb (position m ns) (length ns) (omega arith))
+
+  pub again_is : (p ≢ Some k) → is_again ns k ≡ true
   unfolding is_again
-  again_not h = rw (← e, ← q) (le-ltb p k h)
+  again_is x =
+      let h = own_place m ns k l (sym e) in
+      let y : (position m ns ≡ k → ⊥) = λ z. x (placed ∙ ap Some z) in rw (← e) (lt-ltb (position m ns) k (omega (arith, y)))
+
+  pub again_not : p ≡ Some k → is_again ns k ≡ false
+  unfolding is_again
+  again_not h =
+      let z : position m ns ≡ k = ap (λ (o : Option ℕ). unwrap_or o 0) (sym placed ∙ h) in rw (← e) (le-ltb (position m ns) k (omega (arith, z)))
+
+-- the same by the place itself
+module _ (ns : List (List ℕ)) (k p : ℕ) (m : List ℕ) (e : m ≡ slice_index_or ns k []) (q : p ≡ position m ns) where
+  pub again_before : p < k → is_again ns k ≡ true
+  unfolding is_again
+  again_before h = rw (← e, ← q) (lt-ltb p k h)
+
+  pub again_never : k ≤ p → is_again ns k ≡ false
+  unfolding is_again
+  again_never h = rw (← e, ← q) (le-ltb p k h)
 
 pub some_end : (f : ℕ → Bool) (k n : ℕ) → some f k ≡ false → k ≡ n → false ≡ some f n
 some_end f k n h e = sym h ∙ ap (some f) e

@@ -1,5 +1,5 @@
 -- Laws of tokens: what stands at a place of a text.
-use Rattle.std.specs.Prelude.{◌≡◌, ℕ, zero, suc, ◌+◌, ◌-◌, ◌<◌, ◌≤◌, min, Bool, true, false, cond, not, ◌||◌, List, [], ◌∷◌, ◌++◌, length, take, drop, ◌==◌, ◌≢◌, slice_index, slice_index_or, slice_range, refl}
+use Rattle.std.specs.Prelude.{◌≡◌, ℕ, zero, suc, ◌+◌, ◌-◌, ◌<◌, ◌≤◌, min, Bool, true, false, cond, ◌||◌, List, [], ◌∷◌, ◌++◌, length, take, drop, ◌==◌, ◌≢◌, slice_index, slice_index_or, slice_range, refl}
 use Rattle.std.proofs.Common.{sym, ap, ◌∙◌, true≢false, arith, not-suc-le-zero, zero-add, length-drop, drop_of_length-le, get_or-drop, drop-drop}
 use Rattle.std.proofs.lemmas.Bool.{false≢true}
 use Rattle.std.proofs.Math.Decide.{dec_lt}
@@ -81,7 +81,7 @@ piece_onward text i e h k = omega (arith, piece_some (drop i text) (omega (arith
 
 -- ---- where a piece ends
 
-bars_next : (text : List ℕ) (at : ℕ) → drop 1 (drop at text) ≡ drop (at + 1) text
+pub bars_next : (text : List ℕ) (at : ℕ) → drop 1 (drop at text) ≡ drop (at + 1) text
 bars_next text at = drop-drop 1 at text
 
 module _ (text : List ℕ) (at e : ℕ) (k : e ≡ (at + 1) + length_of_run (is_in Bars) (drop (at + 1) text)) where

@@ -1,8 +1,7 @@
 -- What the pass over the nodes and the functions that are made of it ask and answer, in terms of the definitions.
 use Rattle.std.specs.Prelude.{◌≡◌, Bool, true, false, List, ℕ, ◌≤◌, ◌<◌, length, get_or, set}
 use Rattle.problem.specs.Layout.{node_at}
-use Rattle.problem.specs.declared.Checked.TheVariants.{Accepted}
-use Rattle.problem.specs.Refusals.{checked}
+use Rattle.problem.specs.Refusals.{Accepted, checked}
 use Rattle.nodes.specs.Problem.{problem, Variable, value_of, evaluate}
 use Rattle.nodes.specs.Values.{Evaluated, VariablesAgree}
 use Rattle.evaluation.specs.Readers.{Reads, Above}

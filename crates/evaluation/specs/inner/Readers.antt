@@ -1,10 +1,8 @@
 -- What the functions of the readers' index ask and answer, in terms of the definitions.
 use Rattle.std.specs.Prelude.{◌≡◌, Bool, true, false, not, ◌&&◌, ◌⊎◌, List, [], ◌∷◌, ℕ, zero, suc, ◌+◌, ◌*◌, ◌≤◌, ◌<◌, max, ltb, eqb, length, get_or, set}
 use Rattle.problem.specs.declared.layout.Node.{Node}
-use Rattle.problem.specs.declared.Checked.TheVariants.{Accepted}
-use Rattle.problem.specs.Refusals.{checked}
+use Rattle.problem.specs.Refusals.{Accepted, checked}
 use Rattle.picking.specs.declared.spot.Three.{Three}
-use Rattle.picking.specs.Spot.{at}
 use Rattle.nodes.specs.Problem.{problem, Variable}
 use Rattle.nodes.specs.inner.Nodes.{ids, operand_count, operand_at}
 use Rattle.evaluation.specs.Readers.{Reads, Above, Index}
@@ -74,9 +72,8 @@ pub record Linking (s : List ℕ) (i : ℕ) (slots : List ℕ) : Type 0 where
   pub each : (m : ℕ) → m < (problem s).nodes → ListsFrom (Reads (problem s) m) (problem s).nodes i (readers m)
   pub end : (m : ℕ) → Unlinked s i m → Ended s i slots m
 
--- an accepted problem, and four zeros for each node
+-- four zeros for each node
 pub record Unindexed (s slots : List ℕ) : Type 0 where
-  pub accepted : checked s ≡ Accepted
   pub room : 4 * (problem s).nodes ≤ length slots
   pub none : (k : ℕ) → get_or slots k 0 ≡ 0
 

@@ -1,6 +1,6 @@
 -- Laws of chains of slots: what is written before a chain's links does not change it, and a link put in front of it makes it longer;
 -- and of the slots that tell where what is above a node ends.
-use Rattle.std.specs.Prelude.{◌≡◌, Bool, ◌&&◌, List, [], ◌∷◌, ℕ, ◌+◌, ◌*◌, ◌/◌, ◌≤◌, ◌<◌, max, eqb, length, get_or, set}
+use Rattle.std.specs.Prelude.{◌≡◌, Bool, ◌&&◌, List, ◌∷◌, ℕ, ◌+◌, ◌*◌, ◌/◌, ◌≤◌, ◌<◌, max, eqb, length, get_or, set}
 use Rattle.std.proofs.Math.Path.{refl}
 use Rattle.std.proofs.Common.{sym, ◌∙◌, arith, le_refl, eq-eqb, ne_eqb, length-set, get_or-set_same, lt-length-set}
 use Rattle.std.proofs.Math.Bool.{true, false}

@@ -1,5 +1,5 @@
 -- What the functions of the index take from the definitions: position by position, a link put in front of its chain.
-use Rattle.std.specs.Prelude.{◌≡◌, refl, Bool, true, not, ◌&&◌, List, [], ltb, length, get_or, replicate}
+use Rattle.std.specs.Prelude.{◌≡◌, refl, true, not, ◌&&◌, List, [], ltb, length, get_or, replicate}
 use Rattle.std.proofs.Common.{sym, ap, ◌∙◌, inl, inr, add-one}
 use Rattle.std.proofs.Math.Bool.{and-true}
 use Prim.Native.Nat.{ℕ, zero, suc, ◌+◌, ◌*◌, ◌≤◌, ◌<◌, max}
@@ -8,14 +8,13 @@ use Rattle.std.proofs.Math.Nat.{not-suc-le-zero}
 use Rattle.std.proofs.Math.Decide.{ℕ_discrete}
 use Rattle.std.proofs.Math.Dec.{eqb}
 use Rattle.problem.specs.declared.layout.Node.{Node}
-use Rattle.problem.specs.declared.Checked.TheVariants.{Accepted}
 use Rattle.problem.specs.Layout.{node_at}
-use Rattle.problem.specs.Refusals.{checked}
+use Rattle.problem.specs.Refusals.{Accepted, checked}
 use Rattle.evaluation.specs.Lists.{Lists.done}
 use Rattle.nodes.specs.Problem.{problem}
 use Rattle.evaluation.specs.Readers.{Reads, Above}
 use Rattle.nodes.specs.inner.Nodes.{operand_count, operand_at}
-use Rattle.evaluation.specs.inner.Lists.{ListsFrom, ListsFrom.none}
+use Rattle.evaluation.specs.inner.Lists.{ListsFrom.none}
 use Rattle.evaluation.specs.inner.Readers.{linked, links, in_front, ChainFrom, ChainFrom.ends, Linkable, Unlinked, Ended, Linking, Unindexed, Indexed}
 use Rattle.nodes.specs.laws.Good.{good_of}
 use Rattle.evaluation.specs.laws.Lists.{lists_from}
@@ -206,10 +205,10 @@ module _ {s : List ℕ} {i : ℕ} {d : Node} (l : i < (problem s).nodes) (e : d 
 
 -- ---- all nodes
 
-pub linking_none : {s slots : List ℕ} {n : ℕ} → Unindexed s slots → n ≡ (problem s).nodes → Linking s n slots
-linking_none {s} {slots} {n} u e =
+pub linking_none : {s slots : List ℕ} {n : ℕ} → checked s ≡ Accepted → Unindexed s slots → n ≡ (problem s).nodes → Linking s n slots
+linking_none {s} {slots} {n} a u e =
     record {
-      accepted = u.accepted;
+      accepted = a;
       room = u.room;
       readers = λ m. [];
       chain = λ m b. ends (u.none (4 * m));

@@ -1,12 +1,10 @@
 -- What the pass over the nodes takes from the definitions.
-use Rattle.std.specs.Prelude.{◌≡◌, Bool, true, false, List, ℕ, zero, suc, ◌+◌, ◌*◌, ◌/◌, ◌≤◌, ◌<◌, length, get_or, set, replicate}
+use Rattle.std.specs.Prelude.{◌≡◌, Bool, true, false, List, ℕ, zero, suc, ◌+◌, ◌*◌, ◌/◌, ◌≤◌, ◌<◌, length, get_or, set, replicate, Option, Some, None}
 use Rattle.std.proofs.Math.Path.{refl}
 use Rattle.std.proofs.Common.{sym, ap, ◌∙◌, subst, true≢false, inl, inr, arith, le_refl, add-one, length-set, get_or-set_same, get_or-set_other}
 use Rattle.std.proofs.Math.Decide.{ℕ_discrete}
 use Rattle.std.proofs.lemmas.List.{length-replicate}
 use Rattle.problem.specs.Layout.{node_at}
-use Rattle.nodes.specs.declared.values.Taken.{Taken}
-use Rattle.nodes.specs.declared.values.Taken.TheVariants.{Value, Nothing}
 use Rattle.nodes.specs.Problem.{Prob, problem, value_of, eval_up, evaluate}
 use Rattle.evaluation.specs.Lists.{Lists}
 use Rattle.evaluation.specs.Readers.{Chain, Reads, Above, itself, onward}
@@ -25,17 +23,17 @@ use Rattle.evaluation.specs.laws.Above.{Renewed, renewed_none, renewed_all, rene
 
 -- ---- one node
 
-module _ {s vs marks : List ℕ} {i : ℕ} {all : Bool} {r : Taken} (t : Takes s i all vs marks r) where
-  pub passed_over : r ≡ Nothing → Passed s i all vs marks vs marks 0
+module _ {s vs marks : List ℕ} {i : ℕ} {all : Bool} {r : Option ℕ} (t : Takes s i all vs marks r) where
+  pub passed_over : r ≡ None → Passed s i all vs marks vs marks 0
   passed_over q = over (rw q at t)
     where
-      over : Takes s i all vs marks Nothing → Passed s i all vs marks vs marks 0
+      over : Takes s i all vs marks None → Passed s i all vs marks vs marks 0
       over (nothing x) = left x refl refl refl
 
-  pub passed_on : {x : ℕ} → r ≡ Value x → Passed s i all vs marks (set vs i x) (set marks i 1) 1
+  pub passed_on : {x : ℕ} → r ≡ Some x → Passed s i all vs marks (set vs i x) (set marks i 1) 1
   passed_on {x} q = on (rw q at t)
     where
-      on : Takes s i all vs marks (Value x) → Passed s i all vs marks (set vs i x) (set marks i 1) 1
+      on : Takes s i all vs marks (Some x) → Passed s i all vs marks (set vs i x) (set marks i 1) 1
       on (value w z) = renewed w (ap (set vs i) z) refl refl
 
 pub passed_few : {s vs marks us next : List ℕ} {i r : ℕ} {all : Bool} → Passed s i all vs marks us next r → r ≤ 1
@@ -57,7 +55,6 @@ pub evaluable :
     → Evaluable s us i
 evaluable s vs us i a l e =
     record {
-      accepted = a.accepted;
       places = rw (e, length_eval_up (problem s) i vs) a.places;
       inside = l;
       narrow = λ m h. rw e (eval_up_lt (problem s) (good_of s a.accepted) vs a.places a.agrees i (omega arith) m h);
@@ -189,7 +186,6 @@ module _ {s slots vs : List ℕ} {v : ℕ} (C : Changed s slots vs v) where
       unfolding evaluate
       pass_evaluable =
           record {
-            accepted = C.assigned.accepted;
             places = omega (arith, o.renewed.long, C.assigned.places);
             inside = l;
             narrow = λ k h.

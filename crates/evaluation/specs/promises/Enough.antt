@@ -1,8 +1,7 @@
 -- R-7, "after a move evaluate only nodes above the changed variable": that gives what evaluating everything gives.
 use Rattle.std.specs.Prelude.{◌≡◌, List, ℕ, ◌≤◌, ◌<◌, length, set}
 use Rattle.std.proofs.Common.{le_refl}
-use Rattle.problem.specs.declared.Checked.TheVariants.{Accepted}
-use Rattle.problem.specs.Refusals.{checked}
+use Rattle.problem.specs.Refusals.{Accepted, checked}
 use Rattle.nodes.specs.Problem.{problem, Variable, evaluate}
 use Rattle.nodes.specs.Values.{Evaluated}
 use Rattle.evaluation.specs.Lists.{Lists}

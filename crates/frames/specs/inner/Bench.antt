@@ -1,16 +1,19 @@
 -- What the inner functions of the bench ask and answer, in terms of the definitions. (Not needed to read what it promises.)
-use Rattle.std.specs.Prelude.{◌≡◌, List, ℕ, ◌+◌, ◌*◌, ◌≤◌, ◌<◌, length, get_or}
+use Rattle.std.specs.Prelude.{Result, Ok, Err as Refused, All, List, ℕ, ◌+◌, ◌*◌, ◌≤◌, ◌<◌, length}
+use Rattle.problem.specs.declared.Refusal.{Refusal}
 use Rattle.problem.specs.Layout.{node_count}
+use Rattle.problem.specs.Refusals.{Checked, Accepted, first_below, ◌then◌}
 use Rattle.search.specs.Answers.{answer_words}
 use Rattle.batches.specs.Batch.{part}
 use Rattle.batches.specs.laws.Parts.{laid}
 use Rattle.frames.specs.declared.gathering.Tally.{Tally}
-use Rattle.frames.specs.Names.{most}
+use Rattle.frames.specs.declared.Gathered.{Gathered}
+use Rattle.frames.specs.Names.{most, count_fault, name_fault, keep_fault}
 use Rattle.frames.specs.Bench.{Alike, Modelled, Bench}
 
 -- every name is below n
 abbrev pub NamesBelow : List ℕ → ℕ → Type 0
-NamesBelow names n = (i : ℕ) → i < length names → get_or names i 0 < n
+NamesBelow names n = All (λ id. id < n) names
 
 -- a solution, and so many that are kept
 pub record Compared (names solution kept : List ℕ) (held : ℕ) : Type 0 where
@@ -72,6 +75,20 @@ pub record Gatherable (s : List ℕ) (starts : ℕ) (values answers names kept :
   pub named : NamesBelow names (node_count s)
   pub room : most * node_count s ≤ length kept
 
+-- the names of an accepted problem's variables, and the places to keep in
+pub record Lent (s names kept : List ℕ) : Type 0 where
+  pub named : NamesBelow names (node_count s)
+  pub room : most * node_count s ≤ length kept
+
 -- the gathering, with its counts as a record
 abbrev pub Tallied : List ℕ → ℕ → List ℕ → List ℕ → List ℕ → List ℕ → List ℕ → Tally → Type 0
 Tallied s starts names values answers kept kept' t = Bench s starts names values answers kept kept' t.kept t.repeats t.unkept
+
+-- the bench's own refusals, after the search's
+abbrev pub own_refusals : List ℕ → List ℕ → List ℕ → Checked
+own_refusals s names kept = count_fault names then first_below (name_fault s names) (length names) then keep_fault s kept
+
+-- what callers are told: the counts, or the refusal and counts of 0
+abbrev pub gathered_of : Result Tally Refusal → Gathered
+gathered_of (Ok t) = record { kept = t.kept; repeats = t.repeats; unkept = t.unkept; found = Accepted }
+gathered_of (Refused r) = record { kept = 0; repeats = 0; unkept = 0; found = Refused r }

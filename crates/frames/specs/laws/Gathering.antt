@@ -1,17 +1,17 @@
 -- Laws of the gathering: one start more.
 use Rattle.std.specs.Prelude.{◌≡◌, refl, List, [], ◌∷◌, ◌++◌, ℕ, ◌+◌, ◌*◌, ◌≤◌, ◌<◌, length, get_or}
-use Rattle.std.proofs.Common.{sym, ap, ◌∙◌, mul-le-mul_right, add-one, arith, length-append}
+use Rattle.std.proofs.Common.{sym, ap, ◌∙◌, add-one, arith, length-append}
 use Rattle.std.proofs.Math.Decide.{dec_lt}
 use Rattle.std.proofs.Math.ListN.{get_or-append}
 use Rattle.std.proofs.Math.Seq.{get_or-append_seam}
 use Rattle.problem.specs.Layout.{node_count}
 use Rattle.search.specs.Answers.{answer_words}
-use Rattle.batches.specs.Batch.{part, places}
+use Rattle.batches.specs.Batch.{places}
 use Rattle.batches.specs.laws.Parts.{laid, part_length, part_inside, laid_length, laid_here, laid_below, laid_beyond}
 use Rattle.frames.specs.declared.gathering.Tally.{Tally}
 use Rattle.frames.specs.Names.{most}
-use Rattle.frames.specs.Bench.{Alike, Modelled, Agrees, Gathers, Gathers.none, Gathers.passed, Gathers.keeps, Gathers.repeats, Gathers.unkept, Bench}
-use Rattle.frames.specs.inner.Bench.{AgreesIn, Taken, Taken.repeated, Taken.left_out, Taken.held as stored, StartThere, StartTaken, StartTaken.passed_over, StartTaken.model, Gatherable}
+use Rattle.frames.specs.Bench.{Modelled, Agrees, Gathers, Gathers.none, Gathers.passed, Gathers.keeps, Gathers.repeats, Gathers.unkept, Bench}
+use Rattle.frames.specs.inner.Bench.{AgreesIn, Taking, Taken, Taken.repeated, Taken.left_out, Taken.held as stored, StartThere, StartTaken, StartTaken.passed_over, StartTaken.model, Gatherable, Lent}
 
 -- k starts were taken: what is kept, and how much was counted
 pub record Going (s names values answers kept : List ℕ) (k : ℕ) (kept' : List ℕ) (t : Tally) : Type 0 where
@@ -29,25 +29,24 @@ going_none s names values answers kept =
       few = omega arith;
     }
 
-module _ {s : List ℕ} {starts : ℕ} {names values answers kept : List ℕ} (ready : Gatherable s starts values answers names kept)
-    {k : ℕ} {now : List ℕ} {t : Tally} (g : Going s names values answers kept k now t) (l : k < starts) where
+module _ {s : List ℕ} {starts : ℕ} {names values answers kept : List ℕ} (few : starts ≤ 256) (there : starts * node_count s ≤ length values)
+    (lent : Lent s names kept) {k : ℕ} {now : List ℕ} {t : Tally} (g : Going s names values answers kept k now t) (l : k < starts) where
   abbrev N : ℕ
   N = node_count s
 
-  pub start_there : StartThere N k values answers names now t
-  start_there =
-      record {
-        values_there = part_inside N values l ready.values_there;
-        answers_there = part_inside answer_words answers l ready.answers_there;
-        named = ready.named;
-        room = omega (arith, ready.room, g.long);
-        held = g.held;
-        few_repeats = omega (arith, g.few, ready.few);
-        few_unkept = omega (arith, g.few, ready.few);
-      }
-
   long : length (places s k values) ≡ N
-  long = part_length N k values start_there.values_there
+  long = part_length N k values (part_inside N values l there)
+
+  -- start k's solution, and the places to keep in
+  pub model_taking : Taking names (places s k values) now t
+  model_taking =
+      record {
+        named = rw long lent.named;
+        room = rw long (omega (arith, lent.room, g.long));
+        held = g.held;
+        few_repeats = omega (arith, g.few, few);
+        few_unkept = omega (arith, g.few, few);
+      }
 
   -- a kept solution agrees: in the places, or in the list of starts
   to_list : AgreesIn names now t.kept (places s k values) → Agrees s names values g.bench.list (places s k values)
@@ -65,7 +64,7 @@ module _ {s : List ℕ} {starts : ℕ} {names values answers kept : List ℕ} (r
 
   -- the places where the next one is kept
   keep_there : t.kept < most → t.kept * N + N ≤ length now
-  keep_there h = part_inside N now h (omega (arith, ready.room, g.long))
+  keep_there h = part_inside N now h (omega (arith, lent.room, g.long))
 
   module _ (m : Modelled answers k) (x : AgreesIn names now t.kept (places s k values) → ⊥) (h : t.kept < most) where
     abbrev list : List ℕ
@@ -131,14 +130,43 @@ module _ {s : List ℕ} {starts : ℕ} {names values answers kept : List ℕ} (r
         few = f;
       }
 
-  pub going_more : {now' : List ℕ} {t' : Tally} → StartTaken N k values answers names now t now' t' → Going s names values answers kept (k + 1) now' t'
-  going_more (passed_over x) = going_counted t refl (omega (arith, g.few)) (rw (add-one k) (passed g.bench.gathers x))
-  going_more (model m (repeated a)) =
-      going_counted _ refl (omega (arith, g.few)) (rw (add-one k) (repeats g.bench.gathers m (to_list a)))
-  going_more (model m (left_out x h)) =
+  pub going_passed : (Modelled answers k → ⊥) → Going s names values answers kept (k + 1) now t
+  going_passed x = going_counted t refl (omega (arith, g.few)) (rw (add-one k) (passed g.bench.gathers x))
+
+  pub going_model :
+      Modelled answers k
+      → {now' : List ℕ} {t' : Tally}
+      → Taken names (places s k values) now t now' t'
+      → Going s names values answers kept (k + 1) now' t'
+  going_model m (repeated a) = going_counted _ refl (omega (arith, g.few)) (rw (add-one k) (repeats g.bench.gathers m (to_list a)))
+  going_model m (left_out x h) =
       going_counted _ refl (omega (arith, g.few))
       (rw (add-one k) (unkept g.bench.gathers m (λ a. x (from_list a)) (omega (arith, g.bench.count))))
-  going_more (model m (stored x h)) = rw long (going_kept m x h)
+  going_model m (stored x h) = rw long (going_kept m x h)
+
+module _ {s : List ℕ} {starts : ℕ} {names values answers kept : List ℕ} (ready : Gatherable s starts values answers names kept)
+    {k : ℕ} {now : List ℕ} {t : Tally} (g : Going s names values answers kept k now t) (l : k < starts) where
+  pub start_there : StartThere (node_count s) k values answers names now t
+  start_there =
+      record {
+        values_there = part_inside (node_count s) values l ready.values_there;
+        answers_there = part_inside answer_words answers l ready.answers_there;
+        named = ready.named;
+        room = omega (arith, ready.room, g.long);
+        held = g.held;
+        few_repeats = omega (arith, g.few, ready.few);
+        few_unkept = omega (arith, g.few, ready.few);
+      }
+
+  lent_of : Lent s names kept
+  lent_of = record { named = ready.named; room = ready.room }
+
+  pub going_more :
+      {now' : List ℕ} {t' : Tally}
+      → StartTaken (node_count s) k values answers names now t now' t'
+      → Going s names values answers kept (k + 1) now' t'
+  going_more (passed_over x) = going_passed ready.few ready.values_there lent_of g l x
+  going_more (model m w) = going_model ready.few ready.values_there lent_of g l m w
 
 -- all starts were taken
 pub going_all :

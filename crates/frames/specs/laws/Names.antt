@@ -1,17 +1,13 @@
 -- Laws of the bench's refusals: what 23, 24 and 26 test.
-use Rattle.std.specs.Prelude.{◌≡◌, refl, Bool, true, false, not, ◌||◌, ◌↔◌, List, ℕ, zero, suc, ◌+◌, ◌*◌, ◌≤◌, ◌<◌, eqb, length, get_or}
-use Rattle.std.proofs.Common.{sym, ap, ◌∙◌, lt-suc_self, arith}
+use Rattle.std.specs.Prelude.{◌≡◌, refl, false, ◌↔◌, List, ℕ, zero, suc, ◌*◌, ◌≤◌, ◌<◌, length, get_or}
+use Rattle.std.proofs.Common.{lt-suc_self, arith}
 use Rattle.std.proofs.Math.Decide.{dec_lt}
-use Rattle.problem.specs.declared.Checked.{Checked}
-use Rattle.problem.specs.declared.Checked.TheVariants.{Accepted}
 use Rattle.problem.specs.Layout.{node_count, node_at}
-use Rattle.problem.specs.Refusals.{◌then◌, first_below, checked}
+use Rattle.problem.specs.Refusals.{Accepted, first_below}
 use Rattle.problem.specs.laws.Tests.{lt_no, le_no, eq_no, eq_yes, not_no, or_no}
-use Rattle.problem.specs.laws.First.{then_left, then_right, then_accepted, first_each, first_all}
+use Rattle.problem.specs.laws.First.{first_each, first_all}
 use Rattle.search.specs.laws.Starts.{one_line_is}
-use Rattle.batches.specs.Batch.{batch_refusals}
-use Rattle.batches.specs.promises.Accepted.{Enough, accepted_batch}
-use Rattle.frames.specs.Names.{most, count_fault, no_variable, named_before, name_fault, keep_fault, gather_refusals}
+use Rattle.frames.specs.Names.{most, count_fault, no_variable, named_before, name_fault, keep_fault}
 
 -- none of the first k names is this id
 before_right : (names : List ℕ) (k id : ℕ) → (named_before names k id ≡ false) ↔ ((j : ℕ) → j < k → get_or names j 0 ≡ id → ⊥)

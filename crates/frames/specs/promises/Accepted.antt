@@ -2,13 +2,12 @@
 -- there is room to keep in.
 use Rattle.std.specs.Prelude.{◌≡◌, List, ℕ, ◌*◌, ◌≤◌, ◌<◌, length}
 use Rattle.std.proofs.Common.{◌∙◌, arith}
-use Rattle.problem.specs.declared.Checked.TheVariants.{Accepted}
 use Rattle.problem.specs.Layout.{node_count}
-use Rattle.problem.specs.Refusals.{◌then◌, first_below}
+use Rattle.problem.specs.Refusals.{Accepted, first_below}
 use Rattle.problem.specs.laws.First.{then_left, then_right, then_accepted}
 use Rattle.batches.specs.Batch.{batch_refusals}
 use Rattle.batches.specs.promises.Accepted.{Enough, accepted_batch, batch_accepted}
-use Rattle.frames.specs.Names.{most, count_fault, name_fault, keep_fault, gather_refusals}
+use Rattle.frames.specs.Names.{most, count_fault, name_fault, gather_refusals}
 use Rattle.frames.specs.laws.Names.{Named, count_right, names_right, keep_right}
 
 pub record Offers (s : List ℕ) (starts : ℕ) (values tape lengths budgets names kept answers : List ℕ) : Type 0 where

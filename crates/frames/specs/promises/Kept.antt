@@ -6,7 +6,6 @@ use Rattle.std.proofs.Common.{sym, ap, ◌∙◌, inl, inr, lt-suc_self, not-suc
 use Rattle.std.proofs.Math.Decide.{ℕ_discrete}
 use Rattle.std.proofs.Math.ListN.{get_or-append}
 use Rattle.std.proofs.Math.Seq.{get_or-append_seam}
-use Rattle.problem.specs.declared.Checked.TheVariants.{Accepted}
 use Rattle.problem.specs.declared.Refusal.{Refusal}
 use Rattle.nodes.specs.Problem.{problem}
 use Rattle.nodes.specs.Values.{Evaluated, NodesAgree}
@@ -18,11 +17,12 @@ use Rattle.search.specs.Answers.{said, verdict_number, verdict_code, answer_word
 use Rattle.moves.specs.Moves.{AllOne}
 use Rattle.search.specs.Call.{Called}
 use Rattle.batches.specs.Batch.{places, stretch, Start, Batch}
-use Rattle.search.specs.promises.Demands.{clash, Settled, demand_2}
+use Rattle.search.specs.promises.Demands.{clash, demand_2}
 use Rattle.batches.specs.promises.Batch.{starts_of}
 use Rattle.search.specs.promises.Determined.{called_unique}
 use Rattle.frames.specs.Names.{most}
 use Rattle.frames.specs.Bench.{Alike, Modelled, Agrees, Gathers, Gathers.none, Gathers.passed, Gathers.keeps, Gathers.repeats, Gathers.unkept, Bench}
+use Rattle.problem.specs.Refusals.{Accepted}
 
 -- ---- counts
 

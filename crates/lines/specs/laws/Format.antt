@@ -1,17 +1,15 @@
 -- Laws of the format's tests.
-use Rattle.std.specs.Prelude.{◌≡◌, refl, Bool, true, false, cond, not, ◌&&◌, ◌||◌, List, [], ◌∷◌, ℕ, zero, suc, ◌+◌, ◌-◌, ◌^◌, ◌≤◌, ◌<◌, eqb, leb, length, get_or, take, drop}
-use Rattle.std.proofs.Common.{sym, ap, ◌∙◌, arith, zero-add, length-drop, take_all, eq-eqb, ne_eqb, le-leb}
+use Rattle.std.specs.Prelude.{◌≡◌, refl, Bool, true, false, not, ◌&&◌, ◌||◌, List, [], ◌∷◌, ℕ, ◌+◌, ◌-◌, ◌^◌, ◌≤◌, ◌<◌, eqb, leb, length, take, drop, Option, Some, None}
+use Rattle.std.proofs.Common.{sym, ◌∙◌, arith, zero-add, length-drop, take_all, eq-eqb, ne_eqb, le-leb}
 use Rattle.std.proofs.lemmas.Bool.{lt-leb}
 use Rattle.texts.specs.declared.runs.Class.TheVariants.{Lower}
-use Rattle.texts.specs.declared.numbers.Number.{Number}
-use Rattle.texts.specs.declared.numbers.Number.TheVariants.{Small, Huge}
 use Rattle.texts.specs.Runs.{is_lower, is_in, length_of_run}
 use Rattle.texts.specs.Numbers.{value_in, numbered}
 use Rattle.texts.specs.laws.Numbers.{huge_is, small_is, small_below}
 use Rattle.lines.specs.laws.Word.{few_refs, few_numbers}
 use Rattle.lines.specs.Lines.{Token, token}
 use Rattle.lines.specs.Words.{number_of, word_of, shape}
-use Rattle.lines.specs.Format.{is_word, is_id, signed, unsigned, id_wrong, ◌or_else◌, given, ref_start, sort_fault, refs_bad, numbers_bad, constant_bad, symbol_bad, arguments_wrong, format_fault}
+use Rattle.lines.specs.Format.{is_word, is_id, signed, unsigned, id_wrong, ◌or_else◌, given, sort_fault, arguments_wrong, format_fault, ref_start, refs_bad, numbers_bad, constant_bad, symbol_bad}
 use Rattle.lines.specs.declared.table.Row.{Row}
 use Rattle.lines.specs.declared.table.Makes.{Makes}
 use Rattle.lines.specs.declared.table.Makes.TheVariants.{Sort, Input, Value, Root}
@@ -37,7 +35,7 @@ unfolding unsigned signed
 unsigned_empty [] h = refl
 unsigned_empty (b ∷ t) h = absurd (omega arith)
 
-pub id_huge : (t : Token) (r : Number) → r ≡ numbered (value_in 10 t) → r ≡ Huge → true ≡ id_wrong t
+pub id_huge : (t : Token) (r : Option ℕ) → r ≡ numbered (value_in 10 t) → r ≡ None → true ≡ id_wrong t
 unfolding id_wrong
 id_huge t r e h = rw (le-leb (2 ^ 64) (value_in 10 t) (huge_is _ (sym e ∙ h))) (sym (by (not (is_id t))))
   where
@@ -45,7 +43,7 @@ id_huge t r e h = rw (le-leb (2 ^ 64) (value_in 10 t) (huge_is _ (sym e ∙ h)))
     by true = refl
     by false = refl
 
-pub id_small : (t : Token) (r : Number) (m : ℕ) (b : Bool) → r ≡ numbered (value_in 10 t) → r ≡ Small m → b ≡ is_id t → not b ≡ id_wrong t
+pub id_small : (t : Token) (r : Option ℕ) (m : ℕ) (b : Bool) → r ≡ numbered (value_in 10 t) → r ≡ Some m → b ≡ is_id t → not b ≡ id_wrong t
 unfolding id_wrong
 id_small t r m b e h q =
     let f : value_in 10 t ≡ m = small_is _ _ (sym e ∙ h) in
@@ -65,20 +63,29 @@ pub or_second : (m n : ℕ) → (m ≡ 0 → ⊥) → m ≡ (m or_else n)
 unfolding ◌or_else◌
 or_second m n e = rw (ne_eqb m 0 e)
 
-few_places : (m : Makes) → ref_start m ≤ 3
-few_places Sort = omega arith
-few_places Input = omega arith
-few_places Value = omega arith
-few_places Root = omega arith
-
-pub first_few : (m : Makes) (f : ℕ) → f ≡ ref_start m → f ≤ 3
-first_few m f e = omega (arith, few_places m)
-
 pub refs_few : (k r : ℕ) → r ≡ (shape (word_of k)).refs → r ≤ 3
 refs_few k r e = omega (arith, few_refs k)
 
 pub numbers_few : (k r : ℕ) → r ≡ (shape (word_of k)).numbers → r ≤ 2
 numbers_few k r e = omega (arith, few_numbers k)
+
+-- the answers that make up a line's, in the order in which code finds them
+pub format_said :
+    (ts : List Token) (t₀ t₁ : Token) (id w : Bool) (k : ℕ)
+    → t₀ ≡ token ts 0
+    → id ≡ id_wrong t₀
+    → t₁ ≡ token ts 1
+    → k ≡ number_of t₁
+    → w ≡ is_word t₁
+    → given 1 (id || not w)
+    or_else given 2 (leb 28 k)
+    or_else sort_fault (shape (word_of k)).makes (token ts 2)
+    or_else given 1 (arguments_wrong (shape (word_of k)) ts)
+    ≡ format_fault ts
+unfolding format_fault
+format_said ts t₀ t₁ id w k e₀ ei e₁ ek ew = rw (ew, ek, e₁, ei, e₀)
+
+-- ---- the same with numbers in place of faults
 
 -- the answers that make up a line's, in the order in which code finds them
 pub arguments_tested :
@@ -118,3 +125,13 @@ pub format_tested :
 unfolding format_fault
 format_tested ts t₀ t₁ t₂ id w wrong k s odd outside rest x y z m e₀ ei e₁ ek ew eo eu em e₂ es ea er ex ey ez =
     ez ∙ rw (ey, ex, er, ea, es, e₂, em, eu, eo, ew, ek, e₁, ei, e₀)
+
+-- where the first reference stands
+few_places : (m : Makes) → ref_start m ≤ 3
+few_places Sort = omega arith
+few_places Input = omega arith
+few_places Value = omega arith
+few_places Root = omega arith
+
+pub first_few : (m : Makes) (f : ℕ) → f ≡ ref_start m → f ≤ 3
+first_few m f e = omega (arith, few_places m)

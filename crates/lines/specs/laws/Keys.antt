@@ -1,6 +1,6 @@
 -- Laws of keywords told by numbers.
-use Rattle.std.specs.Prelude.{◌≡◌, refl, Bool, true, false, cond, not, ◌&&◌, ◌||◌, List, [], ◌∷◌, ℕ, zero, suc, ◌+◌, ◌-◌, ◌*◌, ◌≤◌, ◌<◌, T, eqb, ltb, leb, length, get_or, drop}
-use Rattle.std.proofs.Common.{sym, ap, ◌∙◌, add-one, zero-add, length-drop, drop_of_length-le, drop-cons, eq-eqb, ne_eqb, eqb-true, ltb-true, leb-true}
+use Rattle.std.specs.Prelude.{◌≡◌, refl, Bool, true, false, cond, ◌&&◌, ◌||◌, List, [], ◌∷◌, ℕ, zero, suc, ◌+◌, ◌-◌, ◌*◌, ◌≤◌, ◌<◌, eqb, ltb, leb, length, get_or, drop}
+use Rattle.std.proofs.Common.{sym, ap, ◌∙◌, add-one, zero-add, drop_of_length-le, drop-cons, eq-eqb, ne_eqb, eqb-true, ltb-true, leb-true}
 use Rattle.std.proofs.lemmas.Bool.{false≢true, eqb-false}
 use native.Mathlib.Omega.{arith}
 use Rattle.texts.specs.Runs.{ascii, equal}

@@ -1,8 +1,8 @@
 -- Laws of the places of a line's tokens, stored one after the other.
-use Rattle.std.specs.Prelude.{◌≡◌, refl, Bool, true, false, List, [], ℕ, zero, suc, ◌+◌, ◌-◌, ◌*◌, ◌≤◌, ◌<◌, eqb, length, get_or, take, drop, set}
-use Rattle.std.proofs.Common.{sym, ◌∙◌, arith, add-zero, length-set, get_or-set_same, get_or-set_other, get_or-drop, eqb-true}
+use Rattle.std.specs.Prelude.{◌≡◌, refl, Bool, true, false, List, [], ℕ, suc, ◌+◌, ◌-◌, ◌*◌, ◌≤◌, ◌<◌, eqb, length, get_or, take, drop, set}
+use Rattle.std.proofs.Common.{◌∙◌, arith, add-zero, length-set, get_or-set_same, get_or-set_other, get_or-drop, eqb-true}
 use Rattle.std.proofs.lemmas.Bool.{eqb-false}
-use Rattle.lines.specs.Lines.{Token, token, tokens}
+use Rattle.lines.specs.Lines.{token, tokens}
 use Rattle.texts.specs.declared.runs.Class.TheVariants.{Blank}
 use Rattle.texts.specs.Runs.{is_in, length_of_run}
 use Rattle.lines.specs.inner.Places.{token_length, past, begins, ends, beyond, stored, MarkedAt, Marked}

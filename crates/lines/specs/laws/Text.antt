@@ -1,16 +1,14 @@
 -- Laws of the table that the text is.
-use Rattle.std.specs.Prelude.{◌≡◌, Bool, cond, not, ◌||◌, ◌&&◌, eqb, length, drop}
+use Rattle.std.specs.Prelude.{◌≡◌, Bool, cond, not, ◌||◌, ◌&&◌, eqb, length, drop, Option, Some, None}
 use Rattle.std.proofs.Math.Path.{refl, sym}
-use Rattle.std.proofs.Common.{ap, ◌∙◌, arith, add-one, drop_of_length-le, drop-drop}
+use Rattle.std.proofs.Common.{ap, ◌∙◌, arith, drop-drop}
 use Rattle.std.proofs.Math.Bool.{true, false}
-use mathlib.Core.List.{List, [], ◌∷◌, ◌++◌}
+use mathlib.Core.List.{List, [], ◌∷◌}
 use Prim.Native.Nat.{ℕ, zero, suc, ◌+◌, ◌-◌, ◌^◌, ◌≤◌, ◌<◌}
 use Rattle.std.proofs.Math.Dec.{ltb}
 use Rattle.std.proofs.Math.ListN.{take}
 use borrow.Author.Tests.{eq-eqb, ne_eqb, lt-ltb, le-ltb, ltb-true, ltb-false}
 use Rattle.texts.specs.declared.runs.Class.TheVariants.{Line}
-use Rattle.texts.specs.declared.numbers.Number.{Number}
-use Rattle.texts.specs.declared.numbers.Number.TheVariants.{Small, Huge}
 use Rattle.texts.specs.Runs.{is_feed, is_in, length_of_run}
 use Rattle.texts.specs.laws.Runs.{pieces_last, pieces_more}
 use Rattle.texts.specs.Numbers.{value_in, numbered}
@@ -91,11 +89,11 @@ empty_part s w n f = let z : n - n ≡ 0 = omega arith in rw z f
 
 -- ---- numbers of a line
 
-pub small_huge : (u : Token) (r : Number) → r ≡ numbered (value_in 10 u) → r ≡ Huge → 0 ≡ small (value_in 10 u)
+pub small_huge : (u : Token) (r : Option ℕ) → r ≡ numbered (value_in 10 u) → r ≡ None → 0 ≡ small (value_in 10 u)
 unfolding small
 small_huge u r q y = let b : 2 ^ 64 ≤ value_in 10 u = huge_is _ (sym q ∙ y) in rw (le-ltb (value_in 10 u) (2 ^ 64) b)
 
-pub small_held : (u : Token) (r : Number) (n : ℕ) → r ≡ numbered (value_in 10 u) → r ≡ Small n → n ≡ small (value_in 10 u)
+pub small_held : (u : Token) (r : Option ℕ) (n : ℕ) → r ≡ numbered (value_in 10 u) → r ≡ Some n → n ≡ small (value_in 10 u)
 unfolding small
 small_held u r n q y =
     let b : value_in 10 u ≡ n = small_is _ _ (sym q ∙ y) in
@@ -105,7 +103,7 @@ pub small_id : (n : ℕ) → n < 2 ^ 64 → small n ≡ n
 unfolding small
 small_id n h = rw (lt-ltb n (2 ^ 64) h)
 
-pub id_huge : (id : ℕ) (ts : List Token) (u : Token) (r : Number) → u ≡ token ts 0 → r ≡ numbered (value_in 10 u) → r ≡ Huge → id < 2 ^ 64
+pub id_huge : (id : ℕ) (ts : List Token) (u : Token) (r : Option ℕ) → u ≡ token ts 0 → r ≡ numbered (value_in 10 u) → r ≡ None → id < 2 ^ 64
     → false ≡ eqb (id_of ts) id
 unfolding id_of
 id_huge id ts u r g q y l =
@@ -115,7 +113,7 @@ id_huge id ts u r g q y l =
     not_both : value_in 10 u ≡ id → 2 ^ 64 ≤ value_in 10 u → ⊥
     not_both z b = omega arith
 
-pub id_small : (id : ℕ) (ts : List Token) (u : Token) (own : ℕ) (r : Number) → u ≡ token ts 0 → r ≡ numbered (value_in 10 u) → r ≡ Small own
+pub id_small : (id : ℕ) (ts : List Token) (u : Token) (own : ℕ) (r : Option ℕ) → u ≡ token ts 0 → r ≡ numbered (value_in 10 u) → r ≡ Some own
     → eqb own id ≡ eqb (id_of ts) id
 unfolding id_of
 id_small id ts u own r g q y = let b : value_in 10 u ≡ own = small_is _ _ (sym q ∙ y) in rw (← g, b)
@@ -150,7 +148,7 @@ module _ (ts : List Token) (t u : Token) (k m : ℕ) (e : t ≡ token ts 1) (f :
   told_wide h = sym (told_is ∙ rw (le-ltb m 65 h))
 
 -- another name
-pub alias_huge : (ts : List Token) (u : Token) (r : Number) → u ≡ token ts 4 → r ≡ numbered (value_in 10 u) → r ≡ Huge → false ≡ is_alias ts
+pub alias_huge : (ts : List Token) (u : Token) (r : Option ℕ) → u ≡ token ts 4 → r ≡ numbered (value_in 10 u) → r ≡ None → false ≡ is_alias ts
 unfolding is_alias
 alias_huge ts u r g q y =
     let b : 2 ^ 64 ≤ value_in 10 u = huge_is _ (sym q ∙ y) in
@@ -164,8 +162,8 @@ alias_huge ts u r g q y =
     by true d = refl
     by false d = refl
 
-pub alias_told : (ts : List Token) (t u v : Token) (k by : ℕ) (s : Bool) (r : Number) → t ≡ token ts 1 → k ≡ number_of t → u ≡ token ts 4
-    → r ≡ numbered (value_in 10 u) → r ≡ Small by → v ≡ token ts 3 → s ≡ signed v
+pub alias_told : (ts : List Token) (t u v : Token) (k by : ℕ) (s : Bool) (r : Option ℕ) → t ≡ token ts 1 → k ≡ number_of t → u ≡ token ts 4
+    → r ≡ numbered (value_in 10 u) → r ≡ Some by → v ≡ token ts 3 → s ≡ signed v
     → (((eqb k 25 || eqb k 26) && eqb by 0) && not s) ≡ is_alias ts
 unfolding is_alias
 alias_told ts t u v k by s r e f g q y h i =

@@ -1,12 +1,16 @@
 -- The contract of each public function determines its result: any two results that it allows are equal.
-use Rattle.std.specs.Prelude.{◌≡◌, Bool, List, ℕ, take}
+use Rattle.std.specs.Prelude.{◌≡◌, Bool, List, ℕ, take, Result}
 use Rattle.std.proofs.Common.{sym, ◌∙◌}
 use Rattle.texts.specs.Numbers.{value_in}
 use Rattle.lines.specs.declared.table.Makes.{Makes}
+use Rattle.lines.specs.declared.table.Row.{Row}
+use Rattle.lines.specs.declared.fault.Fault.{Fault}
+use Rattle.lines.specs.Faults.{fault_number, told, given_by}
 use Rattle.lines.specs.Lines.{Token, lines, tokens, token}
 use Rattle.lines.specs.Words.{number_of, word_of, shape}
 use Rattle.lines.specs.Format.{signed, unsigned, ref_start, format_fault}
 use Rattle.lines.specs.inner.Places.{Stored}
+use Rattle.lines.specs.laws.Faults.{told_one}
 use Rattle.lines.specs.inner.Told.{find_line, small, width_told, alias_of}
 
 one : {A : Type 0} {v r s : A} → r ≡ v → s ≡ v → r ≡ s
@@ -36,6 +40,9 @@ numbers_of_determined word r s = one
 pub base_of_determined : (word r s : ℕ) → r ≡ (shape (word_of word)).base → s ≡ (shape (word_of word)).base → r ≡ s
 base_of_determined word r s = one
 
+pub row_of_determined : (word : ℕ) (r s : Row) → r ≡ shape (word_of word) → s ≡ shape (word_of word) → r ≡ s
+row_of_determined word r s = one
+
 pub is_signed_determined : (t : Token) (r s : Bool) → r ≡ signed t → s ≡ signed t → r ≡ s
 is_signed_determined t r s = one
 
@@ -47,6 +54,15 @@ ref_start_determined makes r s = one
 
 pub format_fault_determined : (l : List ℕ) (r s : ℕ) → r ≡ format_fault (tokens l) → s ≡ format_fault (tokens l) → r ≡ s
 format_fault_determined l r s = one
+
+pub format_fault_answered : (l : List ℕ) (r s : Result Unit Fault) → told r ≡ format_fault (tokens l) → told s ≡ format_fault (tokens l) → r ≡ s
+format_fault_answered l r s p q = told_one r s (one p q)
+
+pub refuse_if_determined : (given : Bool) (f : Fault) (r s : Result Unit Fault) → told r ≡ given_by f given → told s ≡ given_by f given → r ≡ s
+refuse_if_determined given f r s p q = told_one r s (one p q)
+
+pub number_of_fault_determined : (f : Fault) (r s : ℕ) → r ≡ fault_number f → s ≡ fault_number f → r ≡ s
+number_of_fault_determined f r s = one
 
 pub small_of_determined : (t : Token) (r s : ℕ) → r ≡ small (value_in 10 t) → s ≡ small (value_in 10 t) → r ≡ s
 small_of_determined t r s = one

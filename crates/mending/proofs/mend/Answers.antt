@@ -1,18 +1,20 @@
 -- Refused, or finished.
-use Rattle.std.proofs.Common.{refl, sym, ◌∙◌, ℕ}
+use Rattle.std.proofs.Common.{◌≡◌, rules, refl, sym, ◌∙◌, ℕ}
 use lib.ListN.{length-replicate}
 use Rattle.mending.specs.inner.Mending.{blank}
 use Rattle.mending.specs.laws.Accepted.{placeable}
 use Rattle.mending.proofs.Ends.{mend_refused, mend_finished}
 use Rattle.mending.proofs.mend.Goals as goal
 
-pub returns-in_default : goal.returns-in_default
-returns-in_default c = mend_refused _ _ _ _ _ c.fault_before-found.ensures c.in_default.is
+pub returns-in_err-fault_before : goal.returns-in_err-fault_before
+returns-in_err-fault_before c =
+    let e : c.from_residual.result ≡ c.fault_before.result = search rules in
+    rw e (mend_refused _ _ _ _ _ c.fault_before.ensures c.in_err-fault_before.was)
 
 pub arrange-requires : goal.arrange-requires
 unfolding blank
 arrange-requires c =
-    let p = placeable _ (sym c.fault_before-found.ensures ∙ c.in-Accepted.is) in
+    let p = placeable _ (sym c.fault_before.ensures ∙ c.in_ok-fault_before.was) in
     record {
       header = p.header;
       inside = p.inside;
@@ -21,4 +23,4 @@ arrange-requires c =
     }
 
 pub returns : goal.returns
-returns c = mend_finished _ _ _ (sym c.fault_before-found.ensures ∙ c.in-Accepted.is) c.arrange.ensures
+returns c = mend_finished _ _ _ (sym c.fault_before.ensures ∙ c.in_ok-fault_before.was) c.arrange.ensures

@@ -81,14 +81,12 @@ pub record Unmarked (s marks : List ℕ) : Type 0 where
 
 -- the readers of x are left
 pub record Waking (s heads nexts news marks : List ℕ) (x : ℕ) : Type 0 where
-  pub header : HeaderFacts s
   pub chained : Chained s (3 * node_count s) heads nexts
   pub node : x < node_count s
   pub tried : Tried s news (Pending nexts (get_or heads x 0)) marks
 
 -- id is the lowest that is ready, and k is its new id
 pub record Settling (s heads nexts news marks : List ℕ) (id k : ℕ) : Type 0 where
-  pub header : HeaderFacts s
   pub chained : Chained s (3 * node_count s) heads nexts
   pub places : length news ≡ node_count s
   pub exact : Exact s news marks

@@ -1,8 +1,6 @@
 -- What the mender's own functions ask and promise.
-use Rattle.std.specs.Prelude.{◌≡◌, List, ◌++◌, ℕ, ◌+◌, ◌*◌, ◌≤◌, length, drop, replicate}
+use Rattle.std.specs.Prelude.{Err as Refused, ◌≡◌, List, ◌++◌, ℕ, ◌+◌, ◌*◌, ◌≤◌, length, drop, replicate}
 use Rattle.problem.specs.declared.Refusal.{Refusal}
-use Rattle.problem.specs.declared.Checked.{Checked}
-use Rattle.problem.specs.declared.Checked.TheVariants.{Accepted, Refused}
 use Rattle.problem.specs.Layout.{node_count}
 use Rattle.problem.specs.inner.Facts.{HeaderFacts}
 use Rattle.mending.specs.Order.{none, numbers}
@@ -10,6 +8,7 @@ use Rattle.mending.specs.Mended.{mended, old_ids}
 use Rattle.mending.specs.Refusals.{fault_after}
 use Rattle.mending.specs.inner.Order.{Readable, AllPlaced, Inside}
 use Rattle.mending.specs.inner.Chains.{Chained}
+use Rattle.problem.specs.Refusals.{Checked, Accepted}
 
 -- 1,024 places in which nothing is placed yet
 unfoldable pub blank : List ℕ
@@ -51,24 +50,13 @@ pub record Numbered (s news : List ℕ) (room : ℕ) : Type 0 where
   pub enough : length s ≤ room
 
 -- the whole file can: all its nodes are placed
-pub record Writable (s news olds : List ℕ) (room : ℕ) : Type 0 where
-  pub header : HeaderFacts s
+pub record Writable (s : List ℕ) (room : ℕ) : Type 0 where
   pub all : AllPlaced s
-  pub placed : Placed s news olds
   pub enough : length s ≤ room
 
--- the order is found: the new ids alone, and with the old ones, and where all could be placed
+-- the new ids are found
 pub record Ordered (s news : List ℕ) : Type 0 where
   pub news_are : news ≡ numbers s (node_count s)
-
-pub record Ranked (s news olds : List ℕ) : Type 0 where
-  pub header : HeaderFacts s
-  pub placed : Placed s news olds
-
-pub record Circleless (s news olds : List ℕ) : Type 0 where
-  pub header : HeaderFacts s
-  pub all : AllPlaced s
-  pub placed : Placed s news olds
 
 -- what is left of a call once the order is found
 pub data Finishes (s out map : List ℕ) : List ℕ → List ℕ → Checked → Type 0 where

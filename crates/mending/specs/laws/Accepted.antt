@@ -1,12 +1,10 @@
 -- What an accepted call has: all that the laws of the order and of the mended file ask for; and the theorems for it.
-use Rattle.std.specs.Prelude.{◌≡◌, refl, Bool, true, false, cond, List, ℕ, zero, suc, ◌≤◌, ◌<◌, leb, length, get_or}
+use Rattle.std.specs.Prelude.{Err as Refused, Ok, ◌≡◌, refl, Bool, true, false, cond, List, ℕ, zero, suc, ◌≤◌, ◌<◌, leb, length, get_or}
 use Rattle.std.proofs.Math.Path.{ap}
 use Rattle.std.proofs.Common.{◌∙◌, le_antisymm}
 use native.Mathlib.Omega.{arith}
-use Rattle.problem.specs.declared.Checked.{Checked}
-use Rattle.problem.specs.declared.Checked.TheVariants.{Accepted, Refused}
 use Rattle.problem.specs.Layout.{node_count, node_at}
-use Rattle.problem.specs.Refusals.{◌then◌, first_below, header_fault, node_fault, checked}
+use Rattle.problem.specs.Refusals.{Checked, Accepted, first_below, header_fault, node_fault, checked}
 use Rattle.problem.specs.inner.Facts.{HeaderFacts, Facts}
 use Rattle.problem.specs.laws.Facts.{header_accepted, operands_right, accepted_facts}
 use Rattle.problem.specs.laws.First.{refused_not, then_accepted, then_left, then_right, none_of, of_none, first_each, first_all}
@@ -71,7 +69,7 @@ written s room rows h =
     record { all = no_circle s (then_left (circle_fault s) _ h); enough = r.0; lines = r.1 }
 
 at_old_accepted : (ids : List ℕ) (x : Checked) → at_old ids x ≡ Accepted → x ≡ Accepted
-at_old_accepted ids Accepted h = refl
+at_old_accepted ids (Ok tt) h = refl
 at_old_accepted ids (Refused r) h = absurd (either (leb r.number 12) h)
   where
     either : (t : Bool) → cond t (Refused (record { number = r.number; place = get_or ids r.place 0 })) (Refused r) ≡ Accepted → ⊥

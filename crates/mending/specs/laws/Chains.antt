@@ -184,20 +184,6 @@ chained_none s heads nexts a b x y =
       covers = λ j z h S. absurd (not-suc-le-zero h);
     }
 
-pub chained_next : {s heads nexts : List ℕ} (i : ℕ) → Chained s (3 * i + 3) heads nexts → Chained s (3 * (i + 1)) heads nexts
-chained_next {s} {heads} {nexts} i C =
-    let e : 3 * i + 3 ≡ 3 * (i + 1) = omega arith in subst (λ (k : ℕ). Chained s k heads nexts) e C
-
-pub chained_all :
-    {s heads nexts : List ℕ} (i n : ℕ)
-    → Chained s (3 * i) heads nexts
-    → i ≤ n
-    → n ≤ i
-    → n ≡ node_count s
-    → Chained s (3 * node_count s) heads nexts
-chained_all {s} {heads} {nexts} i n C a b q =
-    let e : 3 * i ≡ 3 * node_count s = omega arith in subst (λ (k : ℕ). Chained s k heads nexts) e C
-
 -- ---- the readers of a node stand in its chain
 
 pub pending_reader :
@@ -227,13 +213,6 @@ pending_step nexts at j h p = by p.on
     by (On.there a e o) =
         let q : a ≡ at - 1 = omega arith in
         inl (record { slot = p.slot; of = p.of; on = subst (λ (k : ℕ). On nexts p.slot (get_or nexts k 0)) q o })
-
-pub pending_none : (nexts : List ℕ) (j : ℕ) → Pending nexts 0 j → ⊥
-pending_none nexts j p = by p.on refl
-  where
-    by : {at : ℕ} → On nexts p.slot at → at ≡ 0 → ⊥
-    by (On.here e) z = omega arith
-    by (On.there a e o) z = omega arith
 
 -- ---- whether node j reads node x
 
@@ -276,3 +255,25 @@ reads_or_not s j x =
                 ]
           ]
     ]
+
+-- ---- the same at a next node, at all nodes, and of a chain that has ended
+pub chained_next : {s heads nexts : List ℕ} (i : ℕ) → Chained s (3 * i + 3) heads nexts → Chained s (3 * (i + 1)) heads nexts
+chained_next {s} {heads} {nexts} i C =
+    let e : 3 * i + 3 ≡ 3 * (i + 1) = omega arith in subst (λ (k : ℕ). Chained s k heads nexts) e C
+
+pub chained_all :
+    {s heads nexts : List ℕ} (i n : ℕ)
+    → Chained s (3 * i) heads nexts
+    → i ≤ n
+    → n ≤ i
+    → n ≡ node_count s
+    → Chained s (3 * node_count s) heads nexts
+chained_all {s} {heads} {nexts} i n C a b q =
+    let e : 3 * i ≡ 3 * node_count s = omega arith in subst (λ (k : ℕ). Chained s k heads nexts) e C
+
+pub pending_none : (nexts : List ℕ) (j : ℕ) → Pending nexts 0 j → ⊥
+pending_none nexts j p = by p.on refl
+  where
+    by : {at : ℕ} → On nexts p.slot at → at ≡ 0 → ⊥
+    by (On.here e) z = omega arith
+    by (On.there a e o) z = omega arith

@@ -1,13 +1,11 @@
 -- What is kept of a refusal, and what its place becomes, as the code finds it.
-use Rattle.std.specs.Prelude.{◌≡◌, true, false, ◌||◌, List, ℕ, ◌≤◌, ◌<◌, leb, eqb, get_or}
-use Rattle.std.proofs.Common.{sym, ◌∙◌, le-leb}
+use Rattle.std.specs.Prelude.{Err as Refused, ◌≡◌, true, false, ◌||◌, List, ℕ, ◌≤◌, ◌<◌, leb, eqb, get_or}
+use Rattle.std.proofs.Common.{le-leb, sym, ◌∙◌}
 use Rattle.std.proofs.lemmas.Bool.{lt-leb}
 use Rattle.problem.specs.declared.Refusal.{Refusal}
-use Rattle.problem.specs.declared.Checked.{Checked}
-use Rattle.problem.specs.declared.Checked.TheVariants.{Accepted, Refused}
-use Rattle.problem.specs.Refusals.{refusal, ◌then◌}
-use Rattle.problem.specs.laws.First.{then_accepted, then_refused}
+use Rattle.problem.specs.Refusals.{Checked, Accepted, refusal, ◌then◌}
 use Rattle.mending.specs.Refusals.{early, at_old}
+use Rattle.problem.specs.laws.First.{then_accepted, then_refused}
 
 module _ (f : Checked) (r : Refusal) (e : f ≡ Refused r) where
   pub early_kept : (leb r.number 8 || eqb r.number 20) ≡ true → Refused r ≡ early f

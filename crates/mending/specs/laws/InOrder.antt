@@ -4,8 +4,8 @@ use Rattle.std.proofs.Common.{ap, ◌∙◌, not-suc-le-zero, le_refl, arith, ge
 use Rattle.std.proofs.Math.Nat.{le_antisymm}
 use Rattle.std.proofs.Math.Decide.{ℕ_discrete, dec_lt}
 use Rattle.std.proofs.lemmas.List.{get_or-replicate}
-use Rattle.problem.specs.Layout.{node_count, node_at}
-use Rattle.mending.specs.Order.{operands_of, field, none, numbers, old, new}
+use Rattle.problem.specs.Layout.{node_count}
+use Rattle.mending.specs.Order.{none, numbers, old, new}
 use Rattle.mending.specs.inner.Order.{Met, AllPlaced, InOrder}
 use Rattle.mending.specs.laws.Order.{new_beyond, get_d_any, ready_facts, facts_ready, is_placed, numbers_none, numbers_next, length_numbers, old_ready, old_lowest}
 

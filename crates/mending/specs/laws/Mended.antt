@@ -1,6 +1,6 @@
 -- The mended file read back: its header and length are the file's, its nodes and roots the file's, moved and renumbered; and a
 -- file in order comes back byte for byte.
-use Rattle.std.specs.Prelude.{◌≡◌, Bool, ℕ, ◌+◌, ◌-◌, ◌*◌, ◌≤◌, ◌<◌, ltb, length, take, drop}
+use Rattle.std.specs.Prelude.{◌≡◌, Bool, ℕ, ◌+◌, ◌*◌, ◌≤◌, ◌<◌, ltb, length, take, drop}
 use Rattle.std.proofs.Math.Path.{refl, sym, ap, ap₂}
 use Rattle.std.proofs.Common.{◌∙◌, length-take, length-drop, get_or-drop, take-add, take_all, length-take-le}
 use Rattle.std.proofs.Math.Bool.{true, false, cond}

@@ -4,7 +4,7 @@ use Rattle.std.specs.Prelude.{◌≡◌, true, List, ℕ, ◌<◌, length, set}
 use Rattle.std.proofs.Common.{sym, ◌∙◌, get_or-set_same, get_or-set_other}
 use Rattle.std.proofs.Math.Decide.{ℕ_discrete}
 use Rattle.problem.specs.Layout.{node_at}
-use Rattle.mending.specs.Order.{operands_of, field, none, placed, ready}
+use Rattle.mending.specs.Order.{field, none, placed, ready}
 use Rattle.mending.specs.inner.Order.{Met, Reads}
 use Rattle.mending.specs.laws.Order.{placed_some, is_placed, ready_facts, facts_ready}
 

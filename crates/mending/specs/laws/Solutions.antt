@@ -1,7 +1,7 @@
 -- The mended file has the file's solutions, moved along the map: node for node and root for root, both ways.
 use Rattle.std.specs.Prelude.{◌≡◌, List, ◌↔◌, ℕ, ◌≤◌, ◌<◌}
 use Rattle.std.proofs.Math.Path.{sym, ap, subst}
-use Rattle.std.proofs.Common.{◌∙◌, arith, lt-ltb, le-ltb}
+use Rattle.std.proofs.Common.{◌∙◌, lt-ltb, le-ltb}
 use Rattle.std.proofs.Math.ListN.{get_or}
 use Rattle.words.specs.Agree.{Agrees}
 use Rattle.operators.specs.Table.{kind_of}

@@ -4,16 +4,16 @@ use Rattle.std.proofs.Common.{sym, ap, ◌∙◌, subst, true≢false, inl, inr}
 use Prim.Native.Nat.{ℕ, ◌+◌, ◌-◌, ◌*◌, ◌/◌, ◌≤◌, ◌<◌, min}
 use Rattle.std.proofs.Math.Decide.{ℕ_discrete}
 use native.Mathlib.Omega.{arith}
-use Rattle.std.proofs.Math.Seq.{set_out}
 use Rattle.words.specs.inner.Marks.{Marked, with_mark, without_mark, Lowest}
 use Rattle.words.specs.laws.Marks.{mark_more, mark_less}
 use Rattle.problem.specs.Layout.{node_count}
 use Rattle.problem.specs.inner.Facts.{HeaderFacts}
 use Rattle.mending.specs.Order.{none, ready, lowest_ready}
-use Rattle.mending.specs.inner.Chains.{Chained, Pending, Tried, Exact, Triable, Waking, Settling, Settled}
-use Rattle.mending.specs.laws.Chains.{pending_reader, pending_step, pending_none, reads_or_not}
-use Rattle.mending.specs.laws.Least.{Least, least_is, least_only}
+use Rattle.mending.specs.inner.Chains.{Chained, Pending, Tried, Exact, Waking, Settling, Triable, Settled}
+use Rattle.mending.specs.laws.Chains.{pending_reader, pending_step, reads_or_not, pending_none}
+use Rattle.mending.specs.laws.Least.{least_is, least_only}
 use Rattle.mending.specs.laws.Ready.{ready_gone, ready_kept, ready_others}
+use Rattle.std.proofs.Math.Seq.{set_out}
 
 pub next_left : (i j : ℕ) → i ≤ j → (i + 1 ≤ j) ⊎ (j ≡ i)
 next_left i j h = elim (ℕ_discrete j i) [ yes e ↦ inr e | no n ↦ inl (omega arith) ]
@@ -55,17 +55,6 @@ module _ (s news : List ℕ) where
     tried_more m' e = subst (Tried s news B) (sym e) (tried_either (ready s news i) refl)
 
   -- ---- all nodes, one after the other
-
-  pub tried_none : (m : List ℕ) → length m ≡ 16 → ((j : ℕ) → Marked m j → ⊥) → Tried s news (λ j. 0 ≤ j) m
-  tried_none m w x = record { words = w; sound = λ j k. absurd (x j k); full = λ j l q. inr (omega arith) }
-
-  pub tried_all : (A : ℕ → Type 0) (m : List ℕ) → Tried s news A m → ((j : ℕ) → j < node_count s → A j → ⊥) → Exact s news m
-  tried_all A m T x =
-      record {
-        words = T.words;
-        sound = T.sound;
-        full = λ j l q. elim (T.full j l q) [ inl h ↦ inl h | inr a ↦ absurd (x j l a) ];
-      }
 
   -- ---- the lowest mark is the lowest node that is ready
 
@@ -136,37 +125,21 @@ pub id_lowest :
     → id ≡ lowest_ready s news
 id_lowest s news m low n id few E L e f = f ∙ ap (min low) e ∙ lowest_is s news m low few E L
 
-module _ {s heads nexts news m : List ℕ} {id k : ℕ} (S : Settling s heads nexts news m id k) where
+module _ {s heads nexts news m : List ℕ} {id k : ℕ} (H : HeaderFacts s) (S : Settling s heads nexts news m id k) where
   -- a node placed: its readers are left
   pub settle_waking : (m' : List ℕ) → id < length news → m' ≡ without_mark m id → Waking s heads nexts (set news id k) m' id
   settle_waking m' h e =
-      let few = S.header.nodes in
+      let few = H.nodes in
       let node : id < node_count s = rw S.places at h in
       let r : ready s news id ≡ true = rw S.lowest (lowest_ready_lem s news (rw S.lowest at node)) in
       record {
-        header = S.header;
         chained = S.chained;
         node = node;
-        tried = rw e (placed_tried s news heads nexts m id k few S.chained S.places S.exact node r (λ z. absurd (omega (arith, S.number, S.header.nodes))));
+        tried = rw e (placed_tried s news heads nexts m id k few S.chained S.places S.exact node r (λ z. absurd (omega (arith, S.number, H.nodes))));
       }
-
-  -- nothing was ready
-  pub settle_none : length news ≤ id → Settled s news id k news m
-  settle_none h = record { news_are = sym (set_out news id k h); exact = S.exact }
-
--- all nodes tried
-pub all_tried : (s news m : List ℕ) (i n : ℕ) → n ≡ node_count s → n ≤ i → Tried s news (λ j. i ≤ j) m → Exact s news m
-all_tried s news m i n e h T = tried_all s news (λ j. i ≤ j) m T (λ j l a. absurd (omega arith))
-
--- a node of the file can be tried
-pub triable : (s m : List ℕ) (i : ℕ) → HeaderFacts s → i < node_count s → length m ≡ 16 → Triable s i m
-triable s m i H h w = record { stands = omega (arith, H.whole); small = omega (arith, H.nodes); words = w }
 
 -- down a chain
 module _ (s news nexts m : List ℕ) (at : ℕ) (H : HeaderFacts s) (h : 0 < at) (l : at ≤ 3 * node_count s) (T : Tried s news (Pending nexts at) m) where
-  pub wake_triable : Triable s ((at - 1) / 3) m
-  wake_triable = triable s m ((at - 1) / 3) H (slot_node at (node_count s) h l) T.words
-
   pub wake_more :
       (m' : List ℕ)
       → m' ≡ cond (ready s news ((at - 1) / 3)) (with_mark m ((at - 1) / 3)) m
@@ -175,6 +148,35 @@ module _ (s news nexts m : List ℕ) (at : ℕ) (H : HeaderFacts s) (h : 0 < at)
       tried_more s news (Pending nexts at) (Pending nexts (get_or nexts (at - 1) 0)) m ((at - 1) / 3) T (slot_node at (node_count s) h l) H.nodes
       (λ j. pending_step nexts at j h) m' e
 
+-- ---- all nodes tried, one that can be tried, and what stands where nothing was ready
+module _ (s news : List ℕ) where
+  pub tried_none : (m : List ℕ) → length m ≡ 16 → ((j : ℕ) → Marked m j → ⊥) → Tried s news (λ j. 0 ≤ j) m
+  tried_none m w x = record { words = w; sound = λ j k. absurd (x j k); full = λ j l q. inr (omega arith) }
+
+  pub tried_all : (A : ℕ → Type 0) (m : List ℕ) → Tried s news A m → ((j : ℕ) → j < node_count s → A j → ⊥) → Exact s news m
+  tried_all A m T x =
+      record {
+        words = T.words;
+        sound = T.sound;
+        full = λ j l q. elim (T.full j l q) [ inl h ↦ inl h | inr a ↦ absurd (x j l a) ];
+      }
+
+pub all_tried : (s news m : List ℕ) (i n : ℕ) → n ≡ node_count s → n ≤ i → Tried s news (λ j. i ≤ j) m → Exact s news m
+all_tried s news m i n e h T = tried_all s news (λ j. i ≤ j) m T (λ j l a. absurd (omega arith))
+
+-- a node of the file can be tried
+pub triable : (s m : List ℕ) (i : ℕ) → HeaderFacts s → i < node_count s → length m ≡ 16 → Triable s i m
+triable s m i H h w = record { stands = omega (arith, H.whole); small = omega (arith, H.nodes); words = w }
+
+module _ (s news nexts m : List ℕ) (at : ℕ) (H : HeaderFacts s) (h : 0 < at) (l : at ≤ 3 * node_count s) (T : Tried s news (Pending nexts at) m) where
+  pub wake_triable : Triable s ((at - 1) / 3) m
+  wake_triable = triable s m ((at - 1) / 3) H (slot_node at (node_count s) h l) T.words
+
 pub wake_end : (s news nexts m : List ℕ) (at : ℕ) → at ≤ 0 → Tried s news (Pending nexts at) m → Exact s news m
 wake_end s news nexts m at h T =
     let e : at ≡ 0 = omega arith in tried_all s news (Pending nexts at) m T (λ j l p. pending_none nexts j (rw e at p))
+
+module _ {s heads nexts news m : List ℕ} {id k : ℕ} (S : Settling s heads nexts news m id k) where
+  -- nothing was ready
+  pub settle_none : length news ≤ id → Settled s news id k news m
+  settle_none h = record { news_are = sym (set_out news id k h); exact = S.exact }

@@ -4,14 +4,14 @@ use Rattle.std.specs.Prelude.{◌≡◌, refl, Bool, true, false, not, ◌↔◌
 use Rattle.std.proofs.Common.{sym, ◌∙◌, true≢false, le_refl, arith}
 use Prim.Native.Nat.{ℕ, zero, suc, ◌≤◌, ◌<◌}
 use Rattle.std.proofs.lemmas.Bool.{not-false}
-use Rattle.problem.specs.declared.Checked.TheVariants.{Accepted}
 use Rattle.problem.specs.Layout.{node_count, node_at}
-use Rattle.mending.specs.Order.{operands_of, field, placed, numbers, old, never_placed}
+use Rattle.mending.specs.Order.{operands_of, field, placed, numbers, never_placed}
 use Rattle.mending.specs.Refusals.{fault_before}
 use Rattle.mending.specs.inner.Order.{Met, Inside}
 use Rattle.mending.specs.laws.Least.{least_is}
 use Rattle.mending.specs.laws.Order.{placed_none, ready_facts, facts_ready, old_ready, given, end_unready}
 use Rattle.mending.specs.laws.Accepted.{placeable}
+use Rattle.problem.specs.Refusals.{Accepted}
 
 -- node i can be placed: all its operands can
 pub data Can (s : List ℕ) : ℕ → Type 0 where

@@ -1,11 +1,9 @@
 -- The contract of `mend` determines its answer and both outputs: any two that it allows are equal.
 use Rattle.std.specs.Prelude.{◌≡◌, refl, List, ℕ}
 use Rattle.std.proofs.Common.{sym, ◌∙◌}
-use Rattle.problem.specs.declared.Refusal.{Refusal}
-use Rattle.problem.specs.declared.Checked.{Checked}
-use Rattle.problem.specs.declared.Checked.TheVariants.{Accepted, Refused}
 use Rattle.problem.specs.laws.First.{refused_not}
 use Rattle.mending.specs.Refusals.{Mends}
+use Rattle.problem.specs.Refusals.{Checked}
 
 pub mend_determined :
     (s out map : List ℕ) {out₁ out₂ map₁ map₂ : List ℕ} {r₁ r₂ : Checked}

@@ -1,9 +1,8 @@
 -- The definitions computed on small files.
 use Rattle.std.specs.Prelude.{◌≡◌, refl, List, [], ◌∷◌, ◌++◌, ℕ}
 use Rattle.operators.specs.Table.{rule_holds}
-use Rattle.problem.specs.declared.Checked.TheVariants.{Accepted}
 use Rattle.problem.specs.Layout.{le16, le32, le64, node_of, node_at, width_at, root_at}
-use Rattle.problem.specs.Refusals.{refusal, first_of, ◌then◌, first_below, mark_wrong, division_wide, operand_above, stray_field, bit_outside, pair_broken, header_lines, header_fault, node_lines, fault_of, node_fault, root_lines, root_fault, root_before, repeat_lines, repeat_fault, checked}
+use Rattle.problem.specs.Refusals.{Accepted, refusal, first_of, mark_wrong, division_wide, operand_above, stray_field, bit_outside, pair_broken, header_lines, header_fault, node_lines, fault_of, node_fault, root_lines, root_fault, root_before, repeat_lines, repeat_fault, checked}
 use Rattle.mending.specs.Order.{least, placed, met, ready, lowest_ready, numbers, old, new, never_placed}
 use Rattle.mending.specs.Mended.{joined, with_fields, renumbered, moved_bytes, node_bytes, root_bytes, mended, old_ids}
 use Rattle.mending.specs.Refusals.{early_fault, operand_fault, circle_fault, mended_fault, room_fault, fault_before, fault_after, mend_fault}
@@ -63,5 +62,5 @@ answers :
     (mend_fault turned 83 3 ≡ Accepted) × (mend_fault turned 82 3 ≡ refusal 25 0) × (mend_fault turned 83 2 ≡ refusal 25 0)
     × (mend_fault circle 0 0 ≡ refusal 22 0) × (mend_fault astray 0 0 ≡ refusal 21 0) × (mend_fault unknown 0 0 ≡ refusal 7 1)
     × (mend_fault narrow 0 0 ≡ refusal 11 0)
-unfolding le16 le32 le64 node_of node_at root_at file node root var4 not4 turned righted turns circle astray unknown narrow least placed met ready lowest_ready numbers old new never_placed joined with_fields renumbered moved_bytes node_bytes root_bytes mended old_ids width_at first_of ◌then◌ first_below mark_wrong division_wide operand_above stray_field bit_outside pair_broken header_lines header_fault node_lines fault_of node_fault root_lines root_fault root_before repeat_lines repeat_fault checked rule_holds early_fault operand_fault circle_fault mended_fault room_fault fault_before fault_after mend_fault
+unfolding le16 le32 le64 node_of node_at root_at file node root var4 not4 turned righted turns circle astray unknown narrow least placed met ready lowest_ready numbers old new never_placed joined with_fields renumbered moved_bytes node_bytes root_bytes mended old_ids width_at first_of mark_wrong division_wide operand_above stray_field bit_outside pair_broken header_lines header_fault node_lines fault_of node_fault root_lines root_fault root_before repeat_lines repeat_fault checked rule_holds early_fault operand_fault circle_fault mended_fault room_fault fault_before fault_after mend_fault
 answers = (refl, refl, refl, refl, refl, refl, refl)

@@ -1,20 +1,18 @@
 -- Which refusals come after the order is found: 22; then 10 to 12, 13 and 16 of the mended file, and 25. 7, 8 and 20 were tried before,
 -- and 9 is never given.
-use Rattle.std.specs.Prelude.{◌≡◌, Bool, true, false, cond, ◌&&◌, ◌||◌, List, [], ◌∷◌, ℕ, zero, suc, ◌<◌, leb, ltb, eqb, get_or}
+use Rattle.std.specs.Prelude.{Err as Refused, Ok, ◌≡◌, Bool, true, false, cond, ◌&&◌, ◌||◌, List, ◌∷◌, ℕ, ◌<◌, leb, ltb, eqb, get_or}
 use Rattle.std.proofs.Math.Path.{refl}
-use Rattle.std.proofs.Common.{sym, ap, ◌∙◌, arith}
+use Rattle.std.proofs.Common.{◌∙◌}
 use Rattle.operators.specs.Table.{kind_count}
 use Rattle.problem.specs.declared.Refusal.{Refusal}
-use Rattle.problem.specs.declared.Checked.{Checked}
-use Rattle.problem.specs.declared.Checked.TheVariants.{Accepted, Refused}
 use Rattle.problem.specs.declared.layout.Node.{Node}
-use Rattle.problem.specs.Layout.{node_count, root_count, node_at, width_at}
-use Rattle.problem.specs.Refusals.{Line, refusal, first_of, ◌then◌, first_below, division_wide, operand_above, header_fault, node_lines, fault_of, node_fault, root_lines, root_fault, repeat_lines, repeat_fault, checked}
+use Rattle.problem.specs.Layout.{node_count, root_count, node_at}
+use Rattle.problem.specs.Refusals.{Checked, Accepted, Line, refusal, first_of, ◌then◌, first_below, division_wide, operand_above, header_fault, node_lines, fault_of, node_fault, root_lines, root_fault, repeat_lines, repeat_fault, checked}
 use Rattle.problem.specs.laws.Facts.{header_right, operands_right}
 use Rattle.problem.specs.laws.First.{refused_not, then_each, then_left, then_right, first_of_each, first_each, first_below_each}
-use Rattle.mending.specs.Order.{operands_of, field, never_placed, old}
+use Rattle.mending.specs.Order.{operands_of, never_placed, old}
 use Rattle.mending.specs.Mended.{renumbered, mended, old_ids}
-use Rattle.mending.specs.Refusals.{early, early_fault, operand_fault, circle_fault, at_old, mended_fault, room_fault, fault_before, fault_after}
+use Rattle.mending.specs.Refusals.{early, early_fault, circle_fault, at_old, mended_fault, room_fault, fault_before, fault_after}
 use Rattle.mending.specs.inner.Order.{AllPlaced, Inside}
 use Rattle.mending.specs.laws.Order.{old_lt, operand_before}
 use Rattle.mending.specs.laws.Mended.{moved_node, mended_nodes, mended_header, mended_node}
@@ -27,21 +25,20 @@ is_late n = leb 10 n && leb n 13 || eqb n 16 || eqb n 22 || eqb n 25
 
 -- an answer that accepts, or refuses by one of them
 abbrev Late : Checked → Type 0
-Late Accepted = Unit {0}
+Late (Ok tt) = Unit {0}
 Late (Refused r) = is_late r.number ≡ true
 
 -- ---- answers one after the other
 
 then_later : (x y : Checked) → Late x → (x ≡ Accepted → Late y) → Late (x then y)
-unfolding ◌then◌
-then_later Accepted y p q = q refl
+then_later (Ok tt) y p q = q refl
 then_later (Refused r) y p q = p
 
 late_same : (x y : Checked) → x ≡ Accepted → Late y → Late (x then y)
 late_same x y e q = then_later x y (rw e tt) (λ z. q)
 
 late_at : (ids : List ℕ) (x : Checked) → Late x → Late (at_old ids x)
-late_at ids Accepted h = tt
+late_at ids (Ok tt) h = tt
 late_at ids (Refused r) h = either (leb r.number 12)
   where
     either : (t : Bool) → Late (cond t (refusal r.number (get_or ids r.place 0)) (Refused r))
@@ -126,10 +123,10 @@ module _ (s : List ℕ) (ok : fault_before s ≡ Accepted) (all : AllPlaced s) w
       let few = P.header.nodes in
       late_same _ _ (header_right (mended s) (mended_header s P.header few all))
       (then_each Late _ _
-      (first_below_each (node_fault (mended s)) Late tt _ (λ k h. late_node k (rw (mended_nodes s P.header few all) at h)))
-      (then_each Late _ _
-      (first_below_each (root_fault (mended s)) Late tt _ (λ j h. late_root j))
-      (first_below_each (repeat_fault (mended s)) Late tt _ (λ j h. late_repeat j))))
+      (first_below_each (node_fault (mended s)) Late tt (node_count (mended s)) (λ k h. late_node k (rw (mended_nodes s P.header few all) at h)))
+      (then_each Late (first_below (root_fault (mended s)) (root_count (mended s))) (first_below (repeat_fault (mended s)) (root_count (mended s)))
+      (first_below_each (root_fault (mended s)) Late tt (root_count (mended s)) (λ j h. late_root j))
+      (first_below_each (repeat_fault (mended s)) Late tt (root_count (mended s)) (λ j h. late_repeat j))))
 
 late_circle : (s : List ℕ) → Late (circle_fault s)
 unfolding circle_fault

@@ -4,10 +4,8 @@ use Rattle.std.proofs.Math.Path.{sym, ap}
 use Rattle.std.proofs.Common.{◌∙◌, arith}
 use Rattle.std.proofs.Math.ListN.{get_or, get_or-append}
 use Rattle.std.proofs.Math.Decide.{dec_lt}
-use Rattle.problem.specs.declared.Checked.{Checked}
-use Rattle.problem.specs.declared.Checked.TheVariants.{Accepted}
 use Rattle.problem.specs.Layout.{node_count, root_count, node_at, root_at}
-use Rattle.problem.specs.Refusals.{checked}
+use Rattle.problem.specs.Refusals.{Checked, Accepted, checked}
 use Rattle.problem.specs.laws.Facts.{facts_accepted, accepted_facts}
 use Rattle.problem.specs.laws.First.{refused_not}
 use Rattle.mending.specs.Order.{operands_of, field, old, new}

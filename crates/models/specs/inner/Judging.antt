@@ -1,14 +1,14 @@
 -- What the inner functions of the judgement ask and answer, in terms of the definitions. (Not needed to read what is promised.)
-use Rattle.std.specs.Prelude.{◌≡◌, Bool, true, false, List, ℕ, zero, suc, ◌≤◌, ◌<◌, eqb, length, get_or, set, take, drop}
+use Rattle.std.specs.Prelude.{Err, Ok, Result, Option, Some, None, ◌≡◌, Bool, true, false, not, ◌&&◌, ◌||◌, List, replicate, ℕ, zero, suc, ◌≤◌, ◌<◌, eqb, length, get_or, set, take, drop, slice_index_or}
 use Rattle.texts.specs.Numbers.{numbered}
-use Rattle.problem.specs.declared.Checked.TheVariants.{Accepted}
-use Rattle.problem.specs.Layout.{node_count, root_count}
-use Rattle.problem.specs.Refusals.{checked}
+use Rattle.problem.specs.Layout.{node_count, root_count, node_at}
+use Rattle.problem.specs.Refusals.{Accepted, bit_outside, checked}
 use Rattle.nodes.specs.Problem.{problem, zeros, evaluate}
 use Rattle.entries.specs.Tokens.{tokens}
 use Rattle.entries.specs.Names.{names, position, is_again, some}
 use Rattle.entries.specs.Entries.{Entry, no_entry, entries_in, entries}
-use Rattle.entries.specs.inner.Places.{Indexed, small}
+use Rattle.entries.specs.inner.Places.{small}
+use Rattle.models.specs.declared.Fault.{Fault}
 use Rattle.models.specs.declared.Judged.{Judged}
 use Rattle.models.specs.declared.Judged.TheVariants.{Yes, No, Refused}
 use Rattle.models.specs.Judgement.{refuse, ◌next◌, first_said, variables_below, unknown_at, again_at, misfit_at, contradicted_at, zero_at}
@@ -19,10 +19,32 @@ is_yes Yes = true
 is_yes (No j) = false
 is_yes (Refused f) = false
 
+-- what a step says, a root that is 0, and both together
+abbrev pub said : Result Unit Fault → Judged
+said (Ok tt) = Yes
+said (Err f) = Refused f
+
+abbrev pub root_said : Option ℕ → Judged
+root_said None = Yes
+root_said (Some j) = No j
+
+abbrev pub told : Result (Option ℕ) Fault → Judged
+told (Ok r) = root_said r
+told (Err f) = Refused f
+
+-- no variable is marked
+unfoldable pub unmarked : List Bool
+unmarked = replicate 1024 false
+
+-- a lent problem that is accepted
+pub record Sound (s vs : List ℕ) : Type 0 where
+  pub accepted : checked s ≡ Accepted
+  pub places : node_count s ≤ length vs
+
 -- the marks of the variables that the first k entries are of, and the values that they give
-unfoldable pub marks_up : List (List ℕ) → List Entry → ℕ → List ℕ
-marks_up ns es zero = zeros
-marks_up ns es (suc k) = set (marks_up ns es k) (position (get_or es k no_entry).name ns) 1
+unfoldable pub marks_up : List (List ℕ) → List Entry → ℕ → List Bool
+marks_up ns es zero = unmarked
+marks_up ns es (suc k) = set (marks_up ns es k) (position (get_or es k no_entry).name ns) true
 
 unfoldable pub words_up : List (List ℕ) → List Entry → ℕ → List ℕ
 words_up ns es zero = zeros
@@ -32,11 +54,6 @@ words_up ns es (suc k) = set (words_up ns es k) (position (get_or es k no_entry)
 unfoldable pub placed_up : List ℕ → List ℕ → ℕ → List ℕ
 placed_up ids words zero = zeros
 placed_up ids words (suc k) = set (placed_up ids words k) (get_or ids k 0) (get_or words k 0)
-
--- a lent problem that is accepted
-pub record Sound (s vs : List ℕ) : Type 0 where
-  pub accepted : checked s ≡ Accepted
-  pub places : node_count s ≤ length vs
 
 -- places for values, with the ids of some variables and their values
 pub record Placing (ids words values : List ℕ) (count : ℕ) : Type 0 where
@@ -51,15 +68,15 @@ pub record Kept (s ids : List ℕ) (i k : ℕ) : Type 0 where
   pub few : k ≤ i
   pub kept : take k ids ≡ variables_below s i
 
--- an accepted problem, the ids of its variables, and their names
-pub record Prepared (s list froms tos digests ids : List ℕ) (count : ℕ) : Type 0 where
+-- an accepted problem, the ids of its variables, and as many names, none of them twice
+pub record Prepared (s list ids : List ℕ) (count : ℕ) : Type 0 where
   pub accepted : checked s ≡ Accepted
   pub variables : Kept s ids (node_count s) count
-  pub indexed : Indexed list froms tos digests count
+  pub all : count ≡ length (names list)
   pub distinct : some (is_again (names list)) count ≡ false
 
 -- after k entries, up to the place `at`
-pub record Reading (s list text given words : List ℕ) (at k : ℕ) (again misfit : Judged) : Type 0 where
+pub record Reading (s list text : List ℕ) (marks : List Bool) (words : List ℕ) (at k : ℕ) (again misfit : Judged) : Type 0 where
   pub inside : at ≤ length text
   pub few : k ≤ at
   pub counted : k ≤ length (entries text)
@@ -67,7 +84,7 @@ pub record Reading (s list text given words : List ℕ) (at k : ℕ) (again misf
   pub known : first_said (unknown_at s (names list) (entries text)) k ≡ Yes
   pub again_first : again ≡ first_said (again_at s (names list) (entries text)) k
   pub misfit_first : misfit ≡ first_said (misfit_at s (names list) (entries text)) k
-  pub marked : given ≡ marks_up (names list) (entries text) k
+  pub marked : marks ≡ marks_up (names list) (entries text) k
   pub worded : words ≡ words_up (names list) (entries text) k
 
 -- 32 to 34
@@ -76,25 +93,19 @@ entries_said s ns es =
     first_said (unknown_at s ns es) (length es) next first_said (again_at s ns es) (length es) next first_said (misfit_at s ns es) (length es)
 
 -- what is said of all entries; where it is nothing, the marks and the values
-pub record Read (s list text given words : List ℕ) (r : Judged) : Type 0 where
+pub record Read (s list text : List ℕ) (marks : List Bool) (words : List ℕ) (r : Judged) : Type 0 where
   pub said : r ≡ entries_said s (names list) (entries text)
-  pub marked : r ≡ Yes → given ≡ marks_up (names list) (entries text) (length (entries text))
+  pub marked : r ≡ Yes → marks ≡ marks_up (names list) (entries text) (length (entries text))
   pub worded : r ≡ Yes → words ≡ words_up (names list) (entries text) (length (entries text))
 
 -- 35, by the marks; 36 and the roots, of the values that stand
-abbrev pub unmarked_at : List ℕ → List ℕ → ℕ → Judged
-unmarked_at ids given k = refuse 35 (get_or ids k 0) (eqb (get_or given k 0) 0)
+abbrev pub unmarked_at : List ℕ → List Bool → ℕ → Judged
+unmarked_at ids marks k = refuse 35 (get_or ids k 0) (not (slice_index_or marks k false))
+
+-- node i is a variable, and a bit of lo is outside its value or one of the value outside hi
+unfoldable pub is_contradicted : List ℕ → List ℕ → ℕ → Bool
+is_contradicted s vs i =
+    eqb (node_at s i).kind 0 && (bit_outside (node_at s i).lo (get_or vs i 0) || bit_outside (get_or vs i 0) (node_at s i).hi)
 
 unfoldable pub values_said : List ℕ → List ℕ → Judged
 values_said s vs = first_said (contradicted_at s vs) (node_count s) next first_said (zero_at s (evaluate (problem s) vs)) (root_count s)
-
--- an accepted problem, and lists of 1,024 places to work in
-pub record Judging (s froms tos digests ids given words values : List ℕ) : Type 0 where
-  pub accepted : checked s ≡ Accepted
-  pub froms_room : length froms ≡ 1024
-  pub tos_room : length tos ≡ 1024
-  pub digests_room : length digests ≡ 1024
-  pub ids_room : length ids ≡ 1024
-  pub no_marks : given ≡ zeros
-  pub no_words : words ≡ zeros
-  pub no_values : values ≡ zeros

@@ -5,7 +5,7 @@ use Rattle.std.proofs.Common.{◌∙◌, not-suc-le-zero, lt-suc_self}
 use Rattle.std.proofs.Math.Bool.{not}
 use Rattle.std.proofs.lemmas.Bool.{false≢true}
 use mathlib.Core.List.{List, [], ◌∷◌}
-use Prim.Native.Nat.{ℕ, zero, suc, ◌-◌, ◌≤◌, ◌<◌}
+use Prim.Native.Nat.{ℕ, zero, suc, ◌≤◌, ◌<◌}
 use native.Mathlib.Omega.{arith}
 use Rattle.std.proofs.Math.Decide.{ℕ_discrete, dec_lt}
 use Rattle.std.proofs.Math.Dec.{eqb}
@@ -14,14 +14,14 @@ use Rattle.std.proofs.lemmas.List.{get_or-replicate, length-map}
 use Rattle.std.proofs.Math.Seq.{get_or-set_same, get_or-set_other}
 use borrow.Author.Tests.{lt-ltb, le-ltb, ltb-false, eq-eqb, ne_eqb}
 use Rattle.texts.specs.Runs.{equal}
-use Rattle.texts.specs.laws.Runs.{equal_same, equal_self}
 use Rattle.texts.specs.Numbers.{numbered}
+use Rattle.texts.specs.laws.Runs.{equal_same, equal_self}
 use Rattle.nodes.specs.Problem.{zeros}
 use Rattle.entries.specs.Names.{position, is_again, some}
 use Rattle.entries.specs.Entries.{Entry, no_entry}
 use Rattle.models.specs.Judgement.{names_of}
 use Rattle.entries.specs.inner.Places.{small}
-use Rattle.models.specs.inner.Judging.{marks_up, words_up}
+use Rattle.models.specs.inner.Judging.{unmarked, marks_up, words_up}
 use Rattle.entries.specs.laws.Names.{some_each}
 
 -- ---- where a name stands
@@ -149,26 +149,26 @@ module _ (ns : List (List ℕ)) (es : List Entry) where
   -- ---- marks
 
   pub marks_length : (k : ℕ) → length (marks_up ns es k) ≡ 1024
-  unfolding marks_up zeros
-  marks_length zero = length-replicate {A = ℕ} 1024 0
-  marks_length (suc k) = length-set (marks_up ns es k) (owner k) 1 ∙ marks_length k
+  unfolding marks_up unmarked
+  marks_length zero = length-replicate {A = Bool} 1024 false
+  marks_length (suc k) = length-set (marks_up ns es k) (owner k) true ∙ marks_length k
 
-  pub marks_at : (k o : ℕ) → o < 1024 → not (eqb (get_or (marks_up ns es k) o 0) 0) ≡ some (λ j. eqb (owner j) o) k
-  unfolding marks_up some zeros
-  marks_at zero o h = ap (λ (x : ℕ). not (eqb x 0)) (get_or-replicate {A = ℕ} 1024 o 0 0 h)
+  pub marks_at : (k o : ℕ) → o < 1024 → get_or (marks_up ns es k) o false ≡ some (λ j. eqb (owner j) o) k
+  unfolding marks_up some unmarked
+  marks_at zero o h = get_or-replicate {A = Bool} 1024 o false false h
   marks_at (suc k) o h =
       elim (ℕ_discrete (owner k) o) [
         | yes q ↦
-            rw (q, get_or-set_same (marks_up ns es k) o 1 0 (omega (arith, marks_length k)), eq-eqb o o refl)
+            rw (q, get_or-set_same (marks_up ns es k) o true false (omega (arith, marks_length k)), eq-eqb o o refl)
             (sym (some_right (some (λ j. eqb (owner j) o) k)))
         | no x ↦
-            rw (get_or-set_other (marks_up ns es k) (owner k) o 1 0 (λ e. x (sym e)), ne_eqb (owner k) o x)
+            rw (get_or-set_other (marks_up ns es k) (owner k) o true false (λ e. x (sym e)), ne_eqb (owner k) o x)
             (marks_at k o h ∙ sym (some_none_left (some (λ j. eqb (owner j) o) k)))
       ]
 
   -- an entry's variable is marked exactly if an earlier entry gave its name
   pub marks_again : (k : ℕ) → k ≤ length es → length ns ≤ 1024 → ((j : ℕ) → j < k → owner j < length ns) → owner k < length ns
-      → not (eqb (get_or (marks_up ns es k) (owner k) 0) 0) ≡ is_again (names_of es) k
+      → get_or (marks_up ns es k) (owner k) false ≡ is_again (names_of es) k
   unfolding is_again
   marks_again k l m known h =
       marks_at k (owner k) (omega arith)
@@ -186,23 +186,19 @@ module _ (ns : List (List ℕ)) (es : List Entry) where
   module _ (once : some (is_again ns) (length ns) ≡ false) (few : length ns ≤ 1024) (known : (j : ℕ) → j < length es → owner j < length ns) where
     -- variable k is not marked exactly if it is absent
     pub marks_absent : (k : ℕ) → k < length ns
-        → eqb (get_or (marks_up ns es (length es)) k 0) 0 ≡ eqb (position (get_or ns k []) (names_of es)) (length es)
+        → not (get_or (marks_up ns es (length es)) k false) ≡ eqb (position (get_or ns k []) (names_of es)) (length es)
     marks_absent k l =
         let p = position (get_or ns k []) (names_of es) in
-        let a : not (eqb (get_or (marks_up ns es (length es)) k 0) 0) ≡ ltb p (length es) =
+        let a : get_or (marks_up ns es (length es)) k false ≡ ltb p (length es) =
         marks_at (length es) k (omega arith)
         ∙ some_same (λ j. eqb (owner j) k) (λ j. equal (get_or (names_of es) j []) (get_or ns k [])) (length es)
         (λ j i. owner_same (get_or ns k []) k j (known j i) l refl (position_own ns once k l))
         ∙ sym (position_before (get_or ns k []) (names_of es) (length es) (omega (arith, names_length es))) in
         let m : p ≤ length es = omega (arith, position_most (get_or ns k []) (names_of es), names_length es) in
         elim (dec_lt p (length es)) [
-          | yes i ↦ other (eqb (get_or (marks_up ns es (length es)) k 0) 0) true (a ∙ lt-ltb p (length es) i) ∙ sym (ne_eqb p (length es) (λ e. omega arith))
-          | no i ↦ other (eqb (get_or (marks_up ns es (length es)) k 0) 0) false (a ∙ le-ltb p (length es) (omega arith)) ∙ sym (eq-eqb p (length es) (omega arith))
+          | yes i ↦ ap not (a ∙ lt-ltb p (length es) i) ∙ sym (ne_eqb p (length es) (λ e. omega arith))
+          | no i ↦ ap not (a ∙ le-ltb p (length es) (omega arith)) ∙ sym (eq-eqb p (length es) (omega arith))
         ]
-      where
-        other : (t u : Bool) → not t ≡ u → t ≡ not u
-        other true u h = ap not h
-        other false u h = ap not h
 
     -- entry j of variable k
     pub entry_owner : (j k : ℕ) → j < length es → k < length ns → (get_or es j no_entry).name ≡ get_or ns k [] → owner j ≡ k

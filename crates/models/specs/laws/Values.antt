@@ -1,39 +1,40 @@
 -- Laws of the values of a text: what the marks and the words say of it, and when its values can be evaluated.
-use Rattle.std.specs.Prelude.{◌≡◌, ◌↔◌, Bool, ◌||◌, set}
+use Rattle.std.specs.Prelude.{Result, Err, Ok, Option, Some, None, is_some, unwrap_or, ◌≡◌, ◌↔◌, Bool, cond, ◌||◌, set}
+use Rattle.std.specs.Option.{option_eq}
+use Rattle.std.specs.Result.{result_and}
 use Rattle.std.proofs.Math.Path.{refl, sym, ap, ap₂}
 use Rattle.std.proofs.Common.{◌∙◌, true≢false, add-one, pow_mono, length-set}
 use Rattle.std.proofs.Math.Bool.{true, false, not}
+use Rattle.std.proofs.lemmas.Bool.{false≢true}
 use mathlib.Core.List.{List, []}
-use Prim.Native.Nat.{ℕ, zero, suc, ◌+◌, ◌-◌, ◌^◌, ◌≤◌, ◌<◌}
+use Prim.Native.Nat.{ℕ, zero, suc, ◌+◌, ◌^◌, ◌≤◌, ◌<◌}
 use native.Mathlib.Omega.{arith}
 use Rattle.std.proofs.Math.Nat.{lt_of_lt_of_le}
 use Rattle.std.proofs.Math.Dec.{leb, eqb}
 use Rattle.std.proofs.Math.ListN.{length, get_or}
 use Rattle.std.proofs.lemmas.List.{length-replicate}
-use borrow.Author.Tests.{leb-false, eqb-true, eqb-false, not-false, eq-eqb, ne_eqb}
+use borrow.Author.Tests.{le-leb, leb-false, eqb-true, eqb-false, not-false, eq-eqb, ne_eqb}
 use Rattle.words.specs.Agree.{Agrees}
 use Rattle.words.specs.laws.Agree.{agrees_of_within, lo_within, within_hi}
 use Rattle.problem.specs.declared.Refusal.{Refusal}
-use Rattle.problem.specs.declared.Checked.{Checked}
-use Rattle.problem.specs.declared.Checked.TheVariants.{Accepted}
-use Rattle.problem.specs.declared.Checked.TheVariants as checks
 use Rattle.problem.specs.Layout.{node_count, root_count, node_at, width_at}
-use Rattle.problem.specs.Refusals.{bit_outside, checked}
+use Rattle.problem.specs.Refusals.{Accepted, refusal, bit_outside, checked}
 use Rattle.problem.specs.laws.Tests.{eq_yes, or_no, and_no}
 use Rattle.problem.specs.laws.Facts.{accepted_facts, within_right}
 use Rattle.nodes.specs.Problem.{problem, zeros, evaluate}
 use Rattle.nodes.specs.Values.{VariablesAgree}
 use Rattle.evaluation.specs.inner.Evaluation.{Assigned}
+use Rattle.models.specs.declared.Fault.{Fault}
 use Rattle.models.specs.declared.Judged.{Judged}
 use Rattle.models.specs.declared.Judged.TheVariants.{Yes, Refused}
 use Rattle.entries.specs.Names.{names, position, is_again, some}
 use Rattle.entries.specs.Entries.{Entry, no_entry, is_model, entries, misfits}
 use Rattle.models.specs.Judgement.{of_problem, list_wrong, judged, refuse, ◌next◌, first_said, variables, names_of, unknown_at, again_at, misfit_at, absent_at, assigned_up, assigned, contradicted_at, zero_at, judged_entries, judged_text}
-use Rattle.entries.specs.inner.Places.{Listed, Named}
-use Rattle.models.specs.inner.Judging.{Kept, Prepared, Placing, Sound, marks_up, words_up, placed_up, entries_said, Read, unmarked_at, values_said, is_yes}
-use Rattle.models.specs.laws.First.{yes_is, answered, passed, refuse_given, refuse_not, next_stays, next_yes, next_assoc, next_left, next_right, not_refused, said_each, said_same}
-use Rattle.models.specs.laws.Positions.{position_most, names_length, marks_absent, marks_length, words_length, words_for}
+use Rattle.entries.specs.inner.Places.{counted, Listed, Named}
+use Rattle.models.specs.inner.Judging.{Kept, Prepared, Placing, Sound, said, told, marks_up, words_up, placed_up, entries_said, Read, unmarked_at, values_said, is_yes}
 use Rattle.entries.specs.laws.Numbers.{small_is_it}
+use Rattle.models.specs.laws.First.{yes_is, answered, passed, not_given, failed, went, given, said_and, refuse_given, refuse_not, next_stays, next_yes, next_assoc, next_left, next_right, not_refused, said_each, said_same}
+use Rattle.models.specs.laws.Positions.{position_most, names_length, marks_absent, marks_length, words_length, words_for}
 use Rattle.models.specs.laws.Variables.{few_names, variable_count, variable_at, variable_below}
 use Rattle.models.specs.laws.Reading.{known_each}
 
@@ -92,7 +93,7 @@ below_length ids words values k id e h = omega (arith, ap length e, placed_lengt
 
 -- ---- 35 and the values, where the entries are all known, given once, and fit
 
-module _ (s list text froms tos digests ids given words : List ℕ) (count : ℕ) (p : Prepared s list froms tos digests ids count)
+module _ (s list text ids : List ℕ) (given : List Bool) (words : List ℕ) (count : ℕ) (p : Prepared s list ids count)
     (said : entries_said s (names list) (entries text) ≡ Yes)
     (marked : given ≡ marks_up (names list) (entries text) (length (entries text)))
     (worded : words ≡ words_up (names list) (entries text) (length (entries text))) where
@@ -112,7 +113,7 @@ module _ (s list text froms tos digests ids given words : List ℕ) (count : ℕ
   nodes_few = (accepted_facts s p.accepted).header.nodes
 
   count_is : count ≡ length ns
-  count_is = p.indexed.named.all
+  count_is = p.all
 
   names_few : length ns ≤ 1024
   names_few = omega (arith, nodes_few, count_is, p.variables.few)
@@ -163,7 +164,7 @@ module _ (s list text froms tos digests ids given words : List ℕ) (count : ℕ
   absent_same =
       said_same (unmarked_at ids given) (absent_at s ns es) count
       (λ k l. ap₂ (refuse 35) (variable_at s ids count p.variables nodes_few k l)
-      (ap (λ (g : List ℕ). eqb (get_or g k 0) 0) marked ∙ marks_absent ns es once names_few known k (omega (arith, count_is))))
+      (ap (λ (g : List Bool). not (get_or g k false)) marked ∙ marks_absent ns es once names_few known k (omega (arith, count_is))))
       ∙ ap (first_said (absent_at s ns es)) count_is
 
   -- the values, where no variable is absent
@@ -229,10 +230,25 @@ entries_judged s ns es r q h =
 
 -- ---- as code finds them
 
-pub sound_of : (s vs ids words : List ℕ) (k : ℕ) → checked s ≡ Accepted → vs ≡ placed_up ids words k → Sound s vs
-sound_of s vs ids words k a e =
-    record { accepted = a; places = omega (arith, (accepted_facts s a).header.nodes, ap length e, placed_length ids words k) }
+pub places_of : (s vs ids words : List ℕ) (k : ℕ) → checked s ≡ Accepted → vs ≡ placed_up ids words k → node_count s ≤ length vs
+places_of s vs ids words k a e = omega (arith, (accepted_facts s a).header.nodes, ap length e, placed_length ids words k)
 
+pub sound_of : (s vs ids words : List ℕ) (k : ℕ) → checked s ≡ Accepted → vs ≡ placed_up ids words k → Sound s vs
+sound_of s vs ids words k a e = record { accepted = a; places = places_of s vs ids words k a e }
+
+-- 35, then 36, then the roots
+module _ (s ids words vs : List ℕ) (count : ℕ) (a : Judged) (r : Result Unit Fault) (p : said r ≡ a) (u : Unit) (h : r ≡ Ok u)
+    (e : vs ≡ placed_up ids words count) (r' : Result Unit Fault) (q : said r' ≡ first_said (contradicted_at s vs) (node_count s)) where
+  pub values_fault : (f : Fault) → r' ≡ Err f → (t : Result (Option ℕ) Fault) → t ≡ Err f → told t ≡ (a next values_said s (placed_up ids words count))
+  unfolding values_said
+  values_fault f g t z = went a _ r p u (told t) h (rw (← e) (failed _ _ r' q f g t z))
+
+  pub values_passed : (u' : Unit) (us : List ℕ) (t : Judged) → r' ≡ Ok u' → us ≡ evaluate (problem s) vs → t ≡ first_said (zero_at s us) (root_count s)
+      → t ≡ (a next values_said s (placed_up ids words count))
+  unfolding values_said
+  values_passed u' us t g k m = went a _ r p u t h (rw (← e) (went _ _ r' q u' t g (m ∙ rw k)))
+
+-- the same of what is said
 module _ (s vs ids words : List ℕ) (count : ℕ) (a missing : Judged) (p : missing ≡ a) (y : is_yes missing ≡ true) (e : vs ≡ placed_up ids words count) where
   pub values_wrong : (r : Judged) → r ≡ first_said (contradicted_at s vs) (node_count s) → is_yes r ≡ false → r ≡ (a next values_said s (placed_up ids words count))
   unfolding values_said
@@ -248,7 +264,41 @@ module _ (s vs ids words : List ℕ) (count : ℕ) (a missing : Judged) (p : mis
   unfolding values_said
   values_zero wrong r us q h u k = passed a _ missing r p y (rw (← e) (passed _ _ wrong r q h (k ∙ rw u)))
 
--- 31, then 32 to 34, then what is left
+-- 31 and 32 to 34, then what is left
+module _ (s list text : List ℕ) (m : Bool) (syntax found : Result Unit Fault) (q : m ≡ is_model text) (p : said syntax ≡ refuse 31 0 (not m))
+    (k : said found ≡ entries_said s (names list) (entries text)) where
+  first : said (result_and syntax found) ≡ (refuse 31 0 (not (is_model text)) next entries_said s (names list) (entries text))
+  first = said_and syntax found ∙ rw (p, k, q)
+
+  pub text_fault : (f : Fault) → result_and syntax found ≡ Err f → (t : Result (Option ℕ) Fault) → t ≡ Err f
+      → told t ≡ (refuse 31 0 (not (is_model text)) next judged_entries s (names list) (entries text))
+  text_fault f h t z =
+      let e : Refused f ≡ (refuse 31 0 (not (is_model text)) next entries_said s (names list) (entries text)) = rw h at first in
+      rw z (by (is_yes (refuse 31 0 (not (is_model text)))) refl e)
+    where
+      by : (t : Bool) → is_yes (refuse 31 0 (not (is_model text))) ≡ t
+          → Refused f ≡ (refuse 31 0 (not (is_model text)) next entries_said s (names list) (entries text))
+          → Refused f ≡ (refuse 31 0 (not (is_model text)) next judged_entries s (names list) (entries text))
+      by false y e = e ∙ sym (next_stays _ _ y) ∙ next_stays _ _ y
+      by true y e =
+          let g = yes_is (refuse 31 0 (not (is_model text))) y in
+          entries_judged s (names list) (entries text) (Refused f) (e ∙ next_yes _ _ g) refl ∙ sym (next_yes _ _ g)
+
+  module _ (u : Unit) (h : result_and syntax found ≡ Ok u) where
+    both : (refuse 31 0 (not (is_model text)) next entries_said s (names list) (entries text)) ≡ Yes
+    both = sym first ∙ by u (result_and syntax found) h
+      where
+        by : (u : Unit) (r : Result Unit Fault) → r ≡ Ok u → said r ≡ Yes
+        by tt r e = rw e
+
+    pub found_nothing : said found ≡ Yes
+    found_nothing = k ∙ next_right _ _ both
+
+    pub text_passed : (t : Judged) → t ≡ judged_entries s (names list) (entries text)
+        → t ≡ (refuse 31 0 (not (is_model text)) next judged_entries s (names list) (entries text))
+    text_passed t e = e ∙ sym (next_yes _ _ (next_left _ _ both))
+
+-- the same of what is said
 module _ (s list text : List ℕ) (m : Bool) (syntax found said : Judged) (q : m ≡ is_model text) (p : syntax ≡ (Yes next refuse 31 0 (not m)))
     (k : found ≡ entries_said s (names list) (entries text)) (e : said ≡ (syntax next found)) where
   syntax_is : syntax ≡ refuse 31 0 (not (is_model text))
@@ -270,68 +320,94 @@ module _ (s list text : List ℕ) (m : Bool) (syntax found said : Judged) (q : m
       → t ≡ (refuse 31 0 (not (is_model text)) next judged_entries s (names list) (entries text))
   text_right t h u = passed _ _ syntax t syntax_is (ap is_yes (next_left syntax found (sym e ∙ yes_is said h))) u
 
--- what judge_values asks
-module _ (s list text froms tos digests ids given words values : List ℕ) (count : ℕ) (p : Prepared s list froms tos digests ids count) (r : Judged)
+-- a mark for each variable, and its value's place
+module _ (s list text ids : List ℕ) (given : List Bool) (words values : List ℕ) (count : ℕ) (p : Prepared s list ids count) (r : Judged)
     (d : Read s list text given words r) (y : is_yes r ≡ true) where
   pub given_room : count ≤ length given
   given_room =
-      omega (arith, (few_names s list froms tos digests ids count p).1, ap length (d.marked (yes_is r y)), marks_length (names list) (entries text) (length (entries text)))
+      omega (arith, (few_names s list ids count p).1, ap length (d.marked (yes_is r y)), marks_length (names list) (entries text) (length (entries text)))
 
   pub placing : values ≡ zeros → Placing ids words values count
   placing z =
+      let few = few_names s list ids count p in
       record {
-        ids_room = (few_names s list froms tos digests ids count p).2;
-        words_room =
-            omega (arith, (few_names s list froms tos digests ids count p).1, ap length (d.worded (yes_is r y)), words_length (names list) (entries text) (length (entries text)));
+        ids_room = few.2;
+        words_room = omega (arith, few.1, ap length (d.worded (yes_is r y)), words_length (names list) (entries text) (length (entries text)));
         none = z;
         below = λ k l.
-            rw (variable_at s ids count p.variables (few_names s list froms tos digests ids count p).0 k l)
-            (let i = variable_below s ids count p.variables (few_names s list froms tos digests ids count p).0 k l in
-            omega (arith, (few_names s list froms tos digests ids count p).0));
+            rw (variable_at s ids count p.variables few.0 k l)
+            (let i = variable_below s ids count p.variables few.0 k l in omega (arith, few.0));
       }
 
+-- what is left
+module _ (s list text ids : List ℕ) (given : List Bool) (words : List ℕ) (count : ℕ) (p : Prepared s list ids count) (r : Judged)
+    (d : Read s list text given words r) (y : r ≡ Yes) where
   pub text_judged : (t : Judged) → t ≡ (first_said (unmarked_at ids given) count next values_said s (placed_up ids words count)) → t ≡ judged_entries s (names list) (entries text)
-  text_judged t q =
-      values_judged s list text froms tos digests ids given words count p (sym d.said ∙ yes_is r y) (d.marked (yes_is r y)) (d.worded (yes_is r y)) t q
+  text_judged t q = values_judged s list text ids given words count p (sym d.said ∙ y) (d.marked y) (d.worded y) t q
 
 -- 30
-module _ (s list froms tos ids : List ℕ) (count named : ℕ) (a : checked s ≡ Accepted) (k : Kept s ids (node_count s) count) (l : Listed list froms tos named) where
+module _ (s list froms tos ids : List ℕ) (count : ℕ) (named : Option ℕ) (a : checked s ≡ Accepted) (k : Kept s ids (node_count s) count)
+    (l : Listed list froms tos named) where
   nodes : node_count s ≤ 1024
   nodes = (accepted_facts s a).header.nodes
 
-  pub wrong_count : (named ≡ count → ⊥) → list_wrong (variables s) (names list) ≡ true
+  few : count ≤ 1024
+  few = omega (arith, k.few, nodes)
+
+  pub wrong_count : (named ≡ Some count → ⊥) → list_wrong (variables s) (names list) ≡ true
   unfolding list_wrong
-  wrong_count x =
-      rw (ne_eqb (length (names list)) (length (variables s))
-      (λ e. x (omega (arith, e, l.count, variable_count s ids count k nodes, k.few, nodes))))
+  wrong_count x = rw (ne_eqb (length (names list)) (length (variables s)) (λ e. x (l.count ∙ sized (e ∙ sym (variable_count s ids count k nodes)))))
+    where
+      sized : length (names list) ≡ count → counted (length (names list)) ≡ Some count
+      sized e = rw (e, le-leb count 1024 few)
+
+  pub count_given : (t : Bool) → t ≡ not (option_eq eqb named (Some count)) → t ≡ true → list_wrong (variables s) (names list) ≡ true
+  count_given t q y = wrong_count (λ e. true≢false (sym y ∙ q ∙ rw (e, eq-eqb count count refl)))
+
+  pub right_count : (t : Bool) → t ≡ not (option_eq eqb named (Some count)) → (r : Result Unit Fault) → said r ≡ refuse 30 0 t → (u : Unit) → r ≡ Ok u
+      → named ≡ Some count
+  right_count t q r e u h = by named (not-false (option_eq eqb named (Some count)) (sym q ∙ not_given 30 0 t r e u h))
+    where
+      by : (o : Option ℕ) → option_eq eqb o (Some count) ≡ true → o ≡ Some count
+      by None h = absurd (false≢true h)
+      by (Some k) h = ap Some (eqb-true k count h)
 
   pub digests_room : (digests : List ℕ) → length digests ≡ 1024 → count ≤ length digests
-  digests_room digests h = omega (arith, k.few, nodes)
+  digests_room digests h = omega (arith, few)
 
-  module _ (e : named ≡ count) where
-    counted : length (names list) ≡ count
-    counted = omega (arith, l.count, e, k.few, nodes)
+  module _ (e : named ≡ Some count) where
+    all : count ≡ length (names list)
+    all = by (leb (length (names list)) 1024) (sym l.count ∙ e)
+      where
+        by : (t : Bool) → cond t (Some (length (names list))) None ≡ Some count → count ≡ length (names list)
+        by true h = sym (ap (λ (o : Option ℕ). unwrap_or o 0) h)
+        by false h = absurd (false≢true (ap is_some h))
 
     pub named_of : Named list froms tos count
     named_of =
         record {
-          all = sym counted;
-          froms_room = omega (arith, k.few, nodes, l.froms_room);
-          tos_room = omega (arith, k.few, nodes, l.tos_room);
-          placed = rw e at (l.placed (omega (arith, e, k.few, nodes)));
+          all = all;
+          froms_room = omega (arith, few, l.froms_room);
+          tos_room = omega (arith, few, l.tos_room);
+          placed = l.placed count e;
         }
 
     same_count : eqb (length (names list)) (length (variables s)) ≡ true
-    same_count = eq-eqb (length (names list)) (length (variables s)) (counted ∙ variable_count s ids count k nodes)
+    same_count = eq-eqb (length (names list)) (length (variables s)) (sym all ∙ variable_count s ids count k nodes)
 
     module _ (g : Bool) (q : g ≡ some (is_again (names list)) count) where
-      pub wrong_twice : g ≡ true → list_wrong (variables s) (names list) ≡ true
+      pub twice : list_wrong (variables s) (names list) ≡ g
       unfolding list_wrong
-      wrong_twice h = rw (same_count, counted, ← q, h)
+      twice = rw (same_count, ← all, q)
+
+      pub wrong_twice : g ≡ true → list_wrong (variables s) (names list) ≡ true
+      wrong_twice h = twice ∙ h
 
       pub right_list : g ≡ false → list_wrong (variables s) (names list) ≡ false
-      unfolding list_wrong
-      right_list h = rw (same_count, counted, ← q, h)
+      right_list h = twice ∙ h
+
+      pub prepared : g ≡ false → Prepared s list ids count
+      prepared h = record { accepted = a; variables = k; all = all; distinct = sym q ∙ h }
 
 module _ (s list text : List ℕ) where
   pub list_wrong_lem : list_wrong (variables s) (names list) ≡ true → Refused (record { number = 30; place = 0 }) ≡ judged_text s list text
@@ -341,21 +417,30 @@ module _ (s list text : List ℕ) where
       ∙ ap (λ (x : Judged). x next (refuse 31 0 (not (is_model text)) next judged_entries s (names list) (entries text)))
       (refuse_given 30 0 _ h)
 
-  pub list_right : (r : Judged) → list_wrong (variables s) (names list) ≡ false
+  -- 30, by a test
+  module _ (t : Bool) (r : Result Unit Fault) (q : said r ≡ refuse 30 0 t) where
+    pub list_fault : (t ≡ true → list_wrong (variables s) (names list) ≡ true) → (f : Fault) → r ≡ Err f → (j : Result (Option ℕ) Fault) → j ≡ Err f
+        → told j ≡ judged_text s list text
+    unfolding judged_text
+    list_fault w f h j z =
+        let y = given 30 0 t r q f h in failed _ _ r (q ∙ ap (refuse 30 0) (y ∙ sym (w y))) f h j z
+
+  pub list_right : list_wrong (variables s) (names list) ≡ false → (r : Judged)
       → r ≡ (refuse 31 0 (not (is_model text)) next judged_entries s (names list) (entries text))
       → r ≡ judged_text s list text
   unfolding judged_text
-  list_right r h k = k ∙ sym (next_yes (refuse 30 0 (list_wrong (variables s) (names list))) _ (refuse_not 30 0 _ h))
+  list_right h r k = k ∙ sym (next_yes (refuse 30 0 (list_wrong (variables s) (names list))) _ (refuse_not 30 0 _ h))
 
   -- the problem's own refusals
-  pub problem_wrong : (x : Checked) (r : Refusal) → x ≡ checked s → x ≡ checks.Refused r
-      → Refused (record { number = r.number; place = r.place }) ≡ judged s list text
+  pub problem_wrong : (r : Refusal) → checked s ≡ refusal r.number r.place → (j : Result (Option ℕ) Fault)
+      → j ≡ Err (record { number = r.number; place = r.place })
+      → told j ≡ judged s list text
   unfolding judged of_problem
-  problem_wrong x r p q =
-      rw (← p, q)
+  problem_wrong r q j z =
+      rw (q, z)
       (next_stays (Refused (record { number = r.number; place = r.place })) (judged_text s list text) refl
       ∙ ap (λ (y : Judged). y next judged_text s list text) (refuse_given r.number r.place true refl))
 
-  pub problem_right : (x : Checked) (r : Judged) → x ≡ checked s → x ≡ Accepted → r ≡ judged_text s list text → r ≡ judged s list text
+  pub problem_right : (r : Judged) → checked s ≡ Accepted → r ≡ judged_text s list text → r ≡ judged s list text
   unfolding judged of_problem
-  problem_right x r p q k = k ∙ rw (← p, q) (sym (next_yes Yes _ refl))
+  problem_right r q k = k ∙ rw q (sym (next_yes Yes _ refl))

@@ -1,5 +1,5 @@
 -- Laws of the variables' ids.
-use Rattle.std.specs.Prelude.{◌≡◌, refl, Bool, true, false, cond, ℕ, zero, suc, ◌+◌, ◌-◌, ◌≤◌, ◌<◌, eqb, set}
+use Rattle.std.specs.Prelude.{Option, Some, ◌≡◌, refl, Bool, true, false, cond, ℕ, zero, suc, ◌+◌, ◌≤◌, ◌<◌, eqb, set}
 use Rattle.std.proofs.Math.Path.{sym, ap}
 use Rattle.std.proofs.Common.{◌∙◌, arith, not-suc-le-zero, length-append, take-suc-set, get_or-take}
 use mathlib.Core.List.{List, [], ◌∷◌, ◌++◌}
@@ -9,6 +9,9 @@ use Rattle.std.proofs.Math.ListN.{length, get_or, length-set, get_or-append}
 use Rattle.std.proofs.lemmas.List.{length-replicate}
 use Rattle.std.proofs.Math.Seq.{length-take-le, get_or-append_seam}
 use borrow.Author.Tests.{eq-eqb, ne_eqb}
+use Rattle.entries.specs.Names.{names}
+use Rattle.entries.specs.inner.Places.{place_in}
+use Rattle.entries.specs.laws.Names.{place_is}
 use Rattle.problem.specs.Layout.{node_count, node_at}
 use Rattle.models.specs.Judgement.{variables_below, variables}
 use Rattle.problem.specs.laws.Facts.{accepted_facts}
@@ -81,10 +84,45 @@ module _ (s ids : List ℕ) (count : ℕ) (q : Kept s ids (node_count s) count) 
   unfolding variables
   variable_below k l = below s (node_count s) k (omega (arith, sym (ap length q.kept) ∙ length-take-le count ids (omega (arith, q.room, q.few))))
 
-pub few_names : (s list froms tos digests ids : List ℕ) (count : ℕ) → Prepared s list froms tos digests ids count → (node_count s ≤ 1024) × (count ≤ 1024) × (count ≤ length ids)
-few_names s list froms tos digests ids count p =
+pub few_names : (s list ids : List ℕ) (count : ℕ) → Prepared s list ids count → (node_count s ≤ 1024) × (count ≤ 1024) × (count ≤ length ids)
+few_names s list ids count p =
     let n : node_count s ≤ 1024 = (accepted_facts s p.accepted).header.nodes in
     (n, omega (arith, p.variables.few), omega (arith, p.variables.few, p.variables.room))
+
+-- variable k of a prepared list
+module _ (s list ids : List ℕ) (count : ℕ) (p : Prepared s list ids count) (k : ℕ) (l : k < count) where
+  pub variable_few : k < 1024
+  variable_few = omega (arith, (few_names s list ids count p).1)
+
+  pub variable_held : k < length ids
+  variable_held = omega (arith, (few_names s list ids count p).2)
+
+  pub variable_id : get_or ids k 0 ≡ get_or (variables s) k 0
+  variable_id = variable_at s ids count p.variables (few_names s list ids count p).0 k l
+
+  pub id_below : get_or ids k 0 < node_count s
+  id_below = rw variable_id (variable_below s ids count p.variables (few_names s list ids count p).0 k l)
+
+  pub id_few : get_or ids k 0 < 1024
+  id_few = omega (arith, id_below, (few_names s list ids count p).0)
+
+-- the variable that a name is of
+module _ (s list ids : List ℕ) (count : ℕ) (p : Prepared s list ids count) (n : List ℕ) (r : Option ℕ) (o : ℕ) (q : r ≡ place_in n (names list))
+    (z : r ≡ Some o) where
+  owner_one : o < count
+  owner_one = omega (arith, (place_is n (names list) o (sym q ∙ z)).1, p.all)
+
+  pub owner_few : o < 1024
+  owner_few = variable_few s list ids count p o owner_one
+
+  pub owner_held : o < length ids
+  owner_held = variable_held s list ids count p o owner_one
+
+  pub owner_id : get_or ids o 0 ≡ get_or (variables s) o 0
+  owner_id = variable_id s list ids count p o owner_one
+
+  pub owner_node : get_or ids o 0 < node_count s
+  owner_node = id_below s list ids count p o owner_one
 
 pub zeros_length : length zeros ≡ 1024
 unfolding zeros

@@ -1,15 +1,12 @@
 -- "Where nothing is refused, say yes exactly when all roots are 1; otherwise the first root that is 0, in file order."
-use Rattle.std.specs.Prelude.{◌≡◌, ◌↔◌, Bool, true, false, cond, List, ℕ, zero, suc, ◌<◌, get_or}
+use Rattle.std.specs.Prelude.{Err, Ok, ◌≡◌, ◌↔◌, Bool, true, false, cond, List, ℕ, zero, suc, ◌<◌, get_or}
 use Rattle.std.proofs.Math.Path.{refl, ap}
 use Rattle.std.proofs.Common.{sym, ◌∙◌, true≢false, arith, eq-eqb, ne_eqb, eqb-true}
 use Rattle.std.proofs.lemmas.Bool.{false≢true}
 use Rattle.std.proofs.Math.Decide.{ℕ_discrete}
 use Rattle.std.proofs.Math.Dec.{lit<}
-use Rattle.problem.specs.declared.Checked.{Checked}
-use Rattle.problem.specs.declared.Checked.TheVariants.{Accepted}
-use Rattle.problem.specs.declared.Checked.TheVariants as checks
 use Rattle.problem.specs.Layout.{node_count, root_count, root_at}
-use Rattle.problem.specs.Refusals.{checked}
+use Rattle.problem.specs.Refusals.{Checked, Accepted, checked}
 use Rattle.nodes.specs.Problem.{problem, evaluate}
 use Rattle.nodes.specs.inner.Good.{Good}
 use Rattle.nodes.specs.laws.Good.{good_of}
@@ -36,8 +33,8 @@ root_value s list text j = get_or (evaluate (problem s) (assigned s (names list)
 -- the problem's own refusals say nothing of an accepted problem alone
 pub problem_accepted : (x : Checked) → of_problem x ≡ Yes → x ≡ Accepted
 unfolding of_problem refuse
-problem_accepted Accepted h = refl
-problem_accepted (checks.Refused r) h = absurd (refused_not _ h)
+problem_accepted (Ok tt) h = refl
+problem_accepted (Err r) h = absurd (refused_not _ h)
 
 -- ---- a refusal names no root
 
@@ -64,8 +61,8 @@ said_not_no f (suc n) h = next_not_no (first_said f n) (f n) (said_not_no f n h)
 
 problem_not_no : (x : Checked) → is_no (of_problem x) ≡ false
 unfolding of_problem is_no
-problem_not_no Accepted = refl
-problem_not_no (checks.Refused r) = refuse_not_no r.number r.place true
+problem_not_no (Ok tt) = refl
+problem_not_no (Err r) = refuse_not_no r.number r.place true
 
 stage_not_no : (s list text : List ℕ) (i : ℕ) → i < 8 → is_no (stage s list text i) ≡ false
 unfolding stages unknown_at again_at misfit_at absent_at contradicted_at

@@ -1,18 +1,15 @@
 -- "The place is 0 for 30 and 31, the earliest entry, from 0, for 32 to 34, the lowest id for 35 and 36": which numbers and places
 -- are told, and what each place is.
-use Rattle.std.specs.Prelude.{◌≡◌, refl, Bool, true, false, cond, ◌||◌, List, eqb, length, get_or}
+use Rattle.std.specs.Prelude.{Err, Ok, ◌≡◌, refl, Bool, true, false, cond, ◌||◌, List, eqb, length, get_or}
 use Rattle.std.proofs.Common.{ap, ◌∙◌, true≢false, ⊎_elim, lit<}
 use Prim.Native.Nat.{ℕ, zero, suc, ◌≤◌, ◌<◌}
 use native.Mathlib.Omega.{arith}
 use borrow.Author.Tests.{eqb-true, not-false}
-use Rattle.problem.specs.declared.Checked.{Checked}
-use Rattle.problem.specs.declared.Checked.TheVariants.{Accepted}
-use Rattle.problem.specs.declared.Checked.TheVariants as checks
 use Rattle.problem.specs.Layout.{node_count, root_count, root_at}
-use Rattle.problem.specs.Refusals.{checked, number_of as own_number, place_of as own_place}
+use Rattle.problem.specs.Refusals.{Checked, Accepted, checked, number_of as own_number, place_of as own_place}
 use Rattle.problem.specs.promises.Numbers.{numbered}
 use Rattle.models.specs.declared.Judged.{Judged}
-use Rattle.models.specs.declared.Judged.TheVariants.{Yes, No, Refused}
+use Rattle.models.specs.declared.Judged.TheVariants.{Yes, No}
 use Rattle.entries.specs.Names.{names}
 use Rattle.entries.specs.Entries.{entries}
 use Rattle.models.specs.Judgement.{refuse, first_said, of_problem, variables, list_wrong, unknown_at, again_at, misfit_at, absent_at, contradicted_at, zero_at, judged}
@@ -53,8 +50,8 @@ by_line c nodes entries k p true r e y q h a b d =
 -- the problem's own refusal
 own_line : (c : Checked) (nodes entries : ℕ) (r : Judged) → of_problem c ≡ r → is_yes r ≡ false → own_number c < 30 → Numbered c nodes entries r
 unfolding of_problem refuse
-own_line Accepted nodes entries r e y l = absurd (true≢false (ap is_yes e ∙ y))
-own_line (checks.Refused q) nodes entries r e y l =
+own_line (Ok tt) nodes entries r e y l = absurd (true≢false (ap is_yes e ∙ y))
+own_line (Err q) nodes entries r e y l =
     rw (← e)
     (record {
       own = λ m. (refl, refl);

@@ -1,47 +1,56 @@
 -- `moves::walk` meets its contract.
-use Rattle.std.proofs.Common.{arith}
-use Rattle.nodes.specs.laws.Readings.{node_there}
-use Rattle.moves.proofs.Places.{on_start, spotted, stepping_in, walk_arrives, walk_short, walk_stuck, walk_below, walk_on}
+use Rattle.std.specs.Prelude.{None, Some}
+use Rattle.std.proofs.Common.{◌∙◌, arith, refl}
+use Rattle.nodes.specs.Problem.{problem}
+use Rattle.moves.proofs.Places.{searching, spotted, stepping_in, walk_arrives, walk_short, walk_stuck, walk_below, walk_on}
 use Rattle.moves.proofs.walk.Goals as goal
 
-pub loop-node-init : goal.loop-node-init
-loop-node-init c = on_start c.requires
+pub node-node-requires : goal.node-node-requires
+unfolding problem
+node-node-requires c = c.loop-node.invariant.1.node
 
-pub node_at-node-requires : goal.node_at-node-requires
-node_at-node-requires c = node_there _ _ c.requires.searching.filled.accepted c.loop-node.invariant.node
+pub returns-then-node-eq-VARIABLE : goal.returns-then-node-eq-VARIABLE
+returns-then-node-eq-VARIABLE c = let o = c.loop-node.invariant.1 in
+    record { walk = walk_arrives o c.node-node.ensures.node c.if-node-eq-VARIABLE.true; placed = (o.on_tape, o.words) }
 
-pub returns-then-node-eq0 : goal.returns-then-node-eq0
-returns-then-node-eq0 c = (walk_arrives c.loop-node.invariant c.node_at-node.ensures c.if-node-eq0.true, (c.loop-node.invariant.on_tape, c.loop-node.invariant.words))
+pub returns-in_err-draw : goal.returns-in_err-draw
+returns-in_err-draw c = let o = c.loop-node.invariant.1 in
+    let short = rw (c.in_err-draw.was, c.loop-node.invariant.0) at c.draw_two.ensures.short in
+    rw c.from_residual.ensures (record { walk = walk_short o c.node-node.ensures.node c.if-node-eq-VARIABLE.false (omega (arith, short, o.on_tape)); placed = tt })
 
-pub overflow_sub-tape : goal.overflow_sub-tape
-overflow_sub-tape c = c.loop-node.invariant.on_tape
+pub spot-spot-requires : goal.spot-spot-requires
+spot-spot-requires c = rw c.node-node.ensures.node (spotted _ _ _ _ _ (searching c.args.run.now c.requires.held) c.loop-node.invariant.1.node)
 
-pub returns-then-tape-at-lt2 : goal.returns-then-tape-at-lt2
-returns-then-tape-at-lt2 c = (walk_short c.loop-node.invariant c.node_at-node.ensures c.if-node-eq0.false c.if-tape-at-lt2.true, tt)
-
-pub spot_of-spot-requires : goal.spot_of-spot-requires
-spot_of-spot-requires c = rw c.node_at-node.ensures (spotted _ _ _ _ _ c.requires.searching c.loop-node.invariant.node)
-
-pub bounds-tape-at : goal.bounds-tape-at
-bounds-tape-at c = omega (arith, c.loop-node.invariant.on_tape)
-
-pub bounds-tape-at-in-loop-node : goal.bounds-tape-at-in-loop-node
-bounds-tape-at-in-loop-node c = omega (arith, c.loop-node.invariant.on_tape)
-
-pub step-way-requires : goal.step-way-requires
-step-way-requires c = stepping_in c.loop-node.invariant c.node_at-node.ensures c.requires.searching c.spot_of-spot.ensures
+pub step-followed-requires : goal.step-followed-requires
+step-followed-requires c = stepping_in c.loop-node.invariant.1 c.node-node.ensures.node (searching c.args.run.now c.requires.held) c.spot-spot.ensures
 
 pub returns-in_default : goal.returns-in_default
-returns-in_default c = (
-  walk_stuck c.loop-node.invariant c.node_at-node.ensures c.if-node-eq0.false c.requires.searching c.spot_of-spot.ensures _ _ c.step-way.ensures (omega (arith, c.loop-node.invariant.on_tape, c.if-tape-at-lt2.false))
-      c.in_default.is,
-  (omega (arith, c.loop-node.invariant.on_tape, c.if-tape-at-lt2.false), omega (arith, c.loop-node.invariant.words)),
-)
+returns-in_default c =
+    let o = c.loop-node.invariant.1 in
+    let e = rw (c.in_ok-draw.was, c.loop-node.invariant.0) at c.draw_two.ensures.first in
+    let p = rw (c.in_ok-draw.was, c.loop-node.invariant.0) at c.draw_two.ensures.second in
+    let h = rw (c.in_ok-draw.was, c.loop-node.invariant.0) at c.draw_two.ensures.there in
+    let n = rw c.in_ok-draw.was at c.draw_two.ensures.next in
+    record {
+      walk = rw n (walk_stuck o c.node-node.ensures.node c.if-node-eq-VARIABLE.false (searching c.args.run.now c.requires.held) c.spot-spot.ensures 0 None (rw (e, p, c.in_default.is) at c.step-followed.ensures) h refl);
+      placed = (omega (arith, n, h), omega (arith, n, o.words));
+    }
 
 pub loop-node-smaller : goal.loop-node-smaller
-loop-node-smaller c = walk_below c.loop-node.invariant c.node_at-node.ensures c.if-node-eq0.false c.requires.searching c.spot_of-spot.ensures _ _ c.step-way.ensures (omega (arith, c.loop-node.invariant.on_tape, c.if-tape-at-lt2.false))
-    c.in-At.is c.operand-n.ensures
+loop-node-smaller c =
+    let o = c.loop-node.invariant.1 in
+    let e = rw (c.in_ok-draw.was, c.loop-node.invariant.0) at c.draw_two.ensures.first in
+    let p = rw (c.in_ok-draw.was, c.loop-node.invariant.0) at c.draw_two.ensures.second in
+    let h = rw (c.in_ok-draw.was, c.loop-node.invariant.0) at c.draw_two.ensures.there in
+    walk_below o c.node-node.ensures.node c.if-node-eq-VARIABLE.false (searching c.args.run.now c.requires.held) c.spot-spot.ensures c.in-Some.way.position (Some c.in-Some.way.value) (rw (e, p, c.in-Some.is) at c.step-followed.ensures) h refl c.operand-n.ensures
 
 pub loop-node-preserved : goal.loop-node-preserved
-loop-node-preserved c = walk_on c.loop-node.invariant c.node_at-node.ensures c.if-node-eq0.false c.requires.searching c.spot_of-spot.ensures _ _ c.step-way.ensures (omega (arith, c.loop-node.invariant.on_tape, c.if-tape-at-lt2.false))
-    c.in-At.is c.operand-n.ensures
+loop-node-preserved c =
+    let o = c.loop-node.invariant.1 in
+    let e = rw (c.in_ok-draw.was, c.loop-node.invariant.0) at c.draw_two.ensures.first in
+    let p = rw (c.in_ok-draw.was, c.loop-node.invariant.0) at c.draw_two.ensures.second in
+    let h = rw (c.in_ok-draw.was, c.loop-node.invariant.0) at c.draw_two.ensures.there in
+    let n = rw c.in_ok-draw.was at c.draw_two.ensures.next in (
+      c.draw_two.ensures.words ∙ c.loop-node.invariant.0,
+      rw n (walk_on o c.node-node.ensures.node c.if-node-eq-VARIABLE.false (searching c.args.run.now c.requires.held) c.spot-spot.ensures c.in-Some.way.position (Some c.in-Some.way.value) (rw (e, p, c.in-Some.is) at c.step-followed.ensures) h refl c.operand-n.ensures),
+    )

@@ -1,5 +1,5 @@
 -- What the definitions of steps and moves allow is one result: each is determined, and what the functions answer.
-use Rattle.std.specs.Prelude.{◌≡◌, refl, ◌⊎◌, Bool, List, [], ℕ, ◌/◌, ◌%◌, ◌<◌, length, get_or, drop}
+use Rattle.std.specs.Prelude.{◌≡◌, refl, ◌⊎◌, Bool, List, [], ℕ, ◌/◌, ◌%◌, ◌<◌, length, get_or, drop, Option, Some, None}
 use Rattle.std.proofs.Common.{sym, ap, ◌∙◌, subst, inl, inr, arith}
 use Rattle.words.specs.Pick.{Pick, Empty}
 use Rattle.words.specs.laws.Pick.{pick_unique, pick_member}
@@ -12,8 +12,7 @@ use Rattle.words.specs.inner.Decides.{Decides}
 use Rattle.evaluation.specs.Readers.{Above}
 use Rattle.evaluation.specs.inner.Lists.{Count}
 use Rattle.evaluation.specs.laws.Lists.{lists_unique, count_unique}
-use Rattle.moves.specs.declared.Turn.{Turn}
-use Rattle.moves.specs.declared.Turn.TheVariants.{Finished, Unfinished}
+use Rattle.moves.specs.declared.turn.Turn.{Turn}
 use Rattle.moves.specs.inner.Moves.{Finishes, Finishes.sets_one, Finishes.sets_none, Turned}
 
 -- ---- a step
@@ -114,21 +113,21 @@ finishes_served :
 finishes_served {P} {vs} (sets_one m e c) s = two_ends P vs m s (omega arith)
 finishes_served {P} {vs} (sets_none m e z) s = two_ends P vs m s (omega arith)
 
+same_turn : {r r' : Turn} → r.above ≡ r'.above → r.steps ≡ r'.steps → r.next ≡ r'.next → r ≡ r'
+same_turn {r} {r'} p q n = λ i. record { above = p i; steps = q i; next = n i }
+
 -- of `finish_move`: the values and the turn. The next place on the tape follows from the steps made.
 pub finish_move_determined :
-    (P : Prob) (vs tape : List ℕ) (k made : ℕ) (us us' : List ℕ) (r r' : Turn)
+    (P : Prob) (vs tape : List ℕ) (k made : ℕ) (us us' : List ℕ) (r r' : Option Turn)
     → Turned P vs tape k made us r
     → Turned P vs tape k made us' r'
     → (us ≡ us') × (r ≡ r')
-finish_move_determined P vs tape k made us us' (Finished r t l) (Finished r' t' l') w w' =
-    let u : (us ≡ us') × (r ≡ r') × (t ≡ t') = finishes_unique w.0 w'.0 in
-    let e₁ : r ≡ r' = u.1 in
-    let e₂ : t ≡ t' = u.2 in
-    let e₃ : l ≡ l' = omega (arith, w.2, w'.2, e₂) in
-    (u.0, cc)
-finish_move_determined P vs tape k made us us' (Finished r t l) Unfinished w w' = absurd (finishes_served w.0 w'.0)
-finish_move_determined P vs tape k made us us' Unfinished (Finished r t l) w w' = absurd (finishes_served w'.0 w.0)
-finish_move_determined P vs tape k made us us' Unfinished Unfinished w w' = (w.1 ∙ sym w'.1, refl)
+finish_move_determined P vs tape k made us us' (Some r) (Some r') w w' =
+    let u = finishes_unique w.0 w'.0 in
+    (u.0, ap Some (same_turn u.1 u.2 (omega (arith, w.2, w'.2, u.2))))
+finish_move_determined P vs tape k made us us' (Some r) None w w' = absurd (finishes_served w.0 w'.0)
+finish_move_determined P vs tape k made us us' None (Some r) w w' = absurd (finishes_served w'.0 w.0)
+finish_move_determined P vs tape k made us us' None None w w' = (w.1 ∙ sym w'.1, refl)
 
 -- of `count_unsatisfied`
 pub count_unsatisfied_determined :

@@ -1,23 +1,19 @@
 -- What the functions of one node ask and answer, in terms of the definitions. (Not needed to read what is promised.)
-use Rattle.std.specs.Prelude.{◌≡◌, List, Bool, true, false, ◌⊎◌, ℕ, ◌+◌, ◌*◌, ◌^◌, ◌≤◌, ◌<◌, ltb, length, get_or}
+use Rattle.std.specs.Prelude.{◌≡◌, List, Bool, true, false, ◌⊎◌, ℕ, ◌+◌, ◌*◌, ◌^◌, ◌≤◌, ◌<◌, ltb, length, get_or, Option, Some, None}
 use Rattle.operators.specs.declared.meaning.Op.{Op}
 use Rattle.operators.specs.Table.{kind_of, shape_of}
 use Rattle.fixed.specs.inner.Pairs.{Ternary, PairsReady}
 use Rattle.fixed.specs.declared.Pair.{Pair}
 use Rattle.fixed.specs.Fixed.{pair, pair_of}
 use Rattle.problem.specs.declared.layout.Node.{Node}
-use Rattle.problem.specs.declared.Checked.TheVariants.{Accepted}
 use Rattle.problem.specs.Layout.{width_at, node_at}
-use Rattle.problem.specs.Refusals.{checked}
+use Rattle.problem.specs.Refusals.{Accepted, checked}
 use Rattle.picking.specs.declared.spot.Three.{Three}
 use Rattle.picking.specs.declared.spot.Spot.{Spot}
 use Rattle.picking.specs.Spot.{at}
-use Rattle.nodes.specs.declared.operands.Widths.{Widths}
 use Rattle.nodes.specs.Problem.{one_of, three, problem, Pairs, fill_up, pair_lo, pair_hi, value_of}
-use Rattle.nodes.specs.declared.due.Operands.{Operands}
-use Rattle.nodes.specs.declared.due.Operands.TheVariants.{Are, Undue}
-use Rattle.nodes.specs.declared.values.Taken.{Taken}
-use Rattle.nodes.specs.declared.values.Taken.TheVariants.{Value, Nothing}
+use Rattle.nodes.specs.declared.due.Scope.{Scope}
+use Rattle.nodes.specs.declared.due.Scope.TheVariants.{All, Above}
 
 -- ---- operands.rt
 
@@ -39,7 +35,7 @@ unfoldable pub held_in : List ℕ → Node → Three
 held_in l n = three (operand_count n) (λ i. get_or l (at (ids n) i) 0)
 
 -- the operands' widths in the problem s
-unfoldable pub widths_in : List ℕ → Node → Widths
+unfoldable pub widths_in : List ℕ → Node → Three
 widths_in s n =
     record {
       a = one_of (ltb 0 (operand_count n)) (width_at s n.a) 0;
@@ -51,6 +47,11 @@ unfoldable pub operator_in : List ℕ → Node → Op
 operator_in s n = record { kind = n.kind; width = n.width; wa = (widths_in s n).a; wb = (widths_in s n).b; low = n.b }
 
 -- ---- due.rt
+
+-- whether all nodes are to be evaluated
+abbrev pub is_all : Scope → Bool
+is_all All = true
+is_all Above = false
 
 -- a test says whether something holds
 pub record Tells (r : Bool) (A : Type 0) : Type 0 where
@@ -77,9 +78,9 @@ pub record Askable (n : Node) (count values marks : ℕ) : Type 0 where
   pub marked : OperandsBelow n marks
 
 -- its operands, if it is to be evaluated
-pub data Offered (all : Bool) (marks vs : List ℕ) (n : Node) : Operands → Type 0 where
-  offered : {x : Three} → Wanted all marks n → x ≡ held_in vs n → Offered all marks vs n (Are x)
-  withheld : (Wanted all marks n → ⊥) → Offered all marks vs n Undue
+pub data Offered (all : Bool) (marks vs : List ℕ) (n : Node) : Option Three → Type 0 where
+  offered : {x : Three} → Wanted all marks n → x ≡ held_in vs n → Offered all marks vs n (Some x)
+  withheld : (Wanted all marks n → ⊥) → Offered all marks vs n None
 
 -- ---- values.rt
 
@@ -91,17 +92,16 @@ Readable s i = 9 + 24 * i + 24 ≤ length s
 abbrev pub standing_op : List ℕ → Node → Op
 standing_op s n = record { kind = n.kind; width = n.width; wa = width_at s n.a; wb = width_at s n.b; low = n.b }
 
--- node i of an accepted problem s, where the places vs of the nodes below it hold values of their widths
+-- node i of the problem s, where the places vs of the nodes below it hold values of their widths
 pub record Evaluable (s vs : List ℕ) (i : ℕ) : Type 0 where
-  pub accepted : checked s ≡ Accepted
   pub places : (problem s).nodes ≤ length vs
   pub inside : i < (problem s).nodes
   pub narrow : (m : ℕ) → m < i → get_or vs m 0 < 2 ^ (problem s).width m
 
 -- what the place of node i takes
-pub data Takes (s : List ℕ) (i : ℕ) (all : Bool) (vs marks : List ℕ) : Taken → Type 0 where
-  value : {x : ℕ} → Wanted all marks (node_at s i) → x ≡ value_of (problem s) vs i → Takes s i all vs marks (Value x)
-  nothing : (Wanted all marks (node_at s i) → ⊥) → Takes s i all vs marks Nothing
+pub data Takes (s : List ℕ) (i : ℕ) (all : Bool) (vs marks : List ℕ) : Option ℕ → Type 0 where
+  value : {x : ℕ} → Wanted all marks (node_at s i) → x ≡ value_of (problem s) vs i → Takes s i all vs marks (Some x)
+  nothing : (Wanted all marks (node_at s i) → ⊥) → Takes s i all vs marks None
 
 -- ---- pairs.rt
 
@@ -124,17 +124,15 @@ pub record Narrowed (s los his : List ℕ) (n : Node) : Type 0 where
       PairsReady (operator_in s n) (pair (held_in los n).a (held_in his n).a) (pair (held_in los n).b (held_in his n).b)
       (pair (held_in los n).c (held_in his n).c)
 
--- node i of an accepted problem s, and a place for each node in two lists, where the nodes below it have pairs of their widths
+-- node i of the problem s, and a place for each node in two lists, where the nodes below it have pairs of their widths
 pub record Fillable (s los his : List ℕ) (i : ℕ) : Type 0 where
-  pub accepted : checked s ≡ Accepted
   pub room_lo : (problem s).nodes ≤ length los
   pub room_hi : (problem s).nodes ≤ length his
   pub inside : i < (problem s).nodes
   pub ternary : (n : ℕ) → n < i → Ternary ((problem s).width n) (pair (get_or los n 0) (get_or his n 0))
 
--- an accepted problem, and a place for each node in two lists
+-- a place for each node in two lists
 pub record Unfilled (s los his : List ℕ) : Type 0 where
-  pub accepted : checked s ≡ Accepted
   pub room_lo : (problem s).nodes ≤ length los
   pub room_hi : (problem s).nodes ≤ length his
 
@@ -163,7 +161,7 @@ spot_in s los his vs n =
       kind = n.kind;
       width = n.width;
       low = n.b;
-      widths = record { a = (widths_in s n).a; b = (widths_in s n).b; c = (widths_in s n).c };
+      widths = widths_in s n;
       los = held_in los n;
       his = held_in his n;
       current = held_in vs n;

@@ -7,9 +7,8 @@ use Rattle.operators.specs.declared.table.Rule.TheVariants.{Free, One, Both, Equ
 use Rattle.operators.specs.Table.{kind_of, shape_of, RuleMet}
 use Rattle.operators.specs.laws.Meaning.{takes, takes_is}
 use Rattle.picking.specs.declared.spot.Three.{Three}
-use Rattle.problem.specs.declared.Checked.TheVariants.{Accepted}
 use Rattle.problem.specs.Layout.{node_count, node_at, width_at}
-use Rattle.problem.specs.Refusals.{checked}
+use Rattle.problem.specs.Refusals.{Accepted, checked}
 use Rattle.problem.specs.inner.Facts.{NodeFacts, Facts}
 use Rattle.problem.specs.laws.Facts.{accepted_facts}
 use Rattle.nodes.specs.Problem.{problem, three, count, arg}

@@ -1,6 +1,6 @@
 -- Laws of the fixed bits of all nodes: what filling keeps, what one node more adds, that every pair is one of its node's
 -- width, and that every value agrees with its pair.
-use Rattle.std.specs.Prelude.{◌≡◌, List, length, get_or, set, replicate}
+use Rattle.std.specs.Prelude.{◌≡◌, List, length, get_or, set}
 use Rattle.std.proofs.Math.Path.{refl, subst}
 use Rattle.std.proofs.Common.{sym, ap, ap₂, ◌∙◌, arith, not-suc-le-zero, le_refl, add-one, get_or-set_same, get_or-set_other, lt-length-set}
 use Prim.Native.Nat.{ℕ, zero, suc, ◌+◌, ◌^◌, ◌≤◌, ◌<◌}

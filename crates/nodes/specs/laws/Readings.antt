@@ -17,8 +17,7 @@ use Rattle.problem.specs.declared.layout.Node.{Node}
 use Rattle.picking.specs.declared.spot.Three.{Three}
 use Rattle.picking.specs.Spot.{at}
 use Rattle.problem.specs.Layout.{node_at, width_at, root_at}
-use Rattle.problem.specs.declared.Checked.TheVariants.{Accepted}
-use Rattle.problem.specs.Refusals.{checked}
+use Rattle.problem.specs.Refusals.{Accepted, checked}
 use Rattle.problem.specs.laws.Facts.{accepted_facts, node_inside}
 use Rattle.nodes.specs.Problem.{Prob, Pairs, three, problem, arg, spot_of, value_of, pair_at, fill_up, pairs, pair_hi}
 use Rattle.picking.specs.laws.Positions.{every_kind, few_positions}
@@ -60,10 +59,10 @@ module _ (s vs : List ℕ) (i : ℕ) where
   positions = (shape_of (node_at s i).kind).operands
 
   -- its field a is the id of a node: an operand's, or 0
-  pub first_inside : Evaluable s vs i → (node_at s i).a < (problem s).nodes
+  pub first_inside : checked s ≡ Accepted → Evaluable s vs i → (node_at s i).a < (problem s).nodes
   unfolding problem
-  first_inside v =
-      let f = (accepted_facts s v.accepted).node i v.inside in
+  first_inside a v =
+      let f = (accepted_facts s a).node i v.inside in
       let few = few_fields n.kind in
       elim (dec_lt 0 positions) [
         | yes h ↦ omega (arith, f.a_below h, v.inside)
@@ -75,18 +74,19 @@ module _ (s vs : List ℕ) (i : ℕ) where
   stands f j h = sym (at_three positions (λ k. f (at (ids n) k)) j h (few_positions n.kind))
 
   -- its kind is one of the table
-  pub kind_there : Evaluable s vs i → (node_at s i).kind < kind_count
+  pub kind_there : checked s ≡ Accepted → Evaluable s vs i → (node_at s i).kind < kind_count
   unfolding problem
-  kind_there v = ((accepted_facts s v.accepted).node i v.inside).kind_known
+  kind_there a v = ((accepted_facts s a).node i v.inside).kind_known
 
   -- its operator can be put to work on what its operands hold
   pub held_ready :
-      Evaluable s vs i
+      checked s ≡ Accepted
+      → Evaluable s vs i
       → 2 ≤ (node_at s i).kind
       → Ready (standing_op s (node_at s i)) (held_in vs (node_at s i)).a (held_in vs (node_at s i)).b (held_in vs (node_at s i)).c
   unfolding problem width_at held_in
-  held_ready v k =
-      let g : Good (problem s) = good_of s v.accepted in
+  held_ready ok v k =
+      let g : Good (problem s) = good_of s ok in
       let here = g.node i v.inside in
       let fits : (j : ℕ) → j < positions → at (held_in vs n) j < 2 ^ (node_at s (at (ids n) j)).width =
       λ j h. rw (at_three positions (λ k. get_or vs (at (ids n) k) 0) j h (few_positions n.kind)) (v.narrow (at (ids n) j) (here.below j h)) in
@@ -95,8 +95,8 @@ module _ (s vs : List ℕ) (i : ℕ) where
         known = here.known;
         some = here.some;
         wide = here.wide;
-        fit = fit_used (kind_of n.kind) _ _ _ _ _ _ _ _ ((accepted_facts s v.accepted).node i v.inside).rule
-            (λ h. let a = g.node n.a (first_inside v) in (a.some, a.wide))
+        fit = fit_used (kind_of n.kind) _ _ _ _ _ _ _ _ ((accepted_facts s ok).node i v.inside).rule
+            (λ h. let a = g.node n.a (first_inside ok v) in (a.some, a.wide))
             (record { a = fits 0; b = fits 1; c = fits 2 });
       }
 
@@ -148,11 +148,11 @@ module _ (s los his : List ℕ) (i : ℕ) where
   derives_pair k = sym (pair_operator (problem s) i both k)
 
   -- the operator of node i can be put to work on the pairs below it
-  pub narrowed : Fillable s los his i → 2 ≤ (node_at s i).kind → Narrowed s los his (node_at s i)
+  pub narrowed : checked s ≡ Accepted → Fillable s los his i → 2 ≤ (node_at s i).kind → Narrowed s los his (node_at s i)
   unfolding problem spot_of operator_in held_in widths_in width_at three
-  narrowed f k =
+  narrowed a f k =
       let P : Prob = problem s in
-      let g : Good P = good_of s f.accepted in
+      let g : Good P = good_of s a in
       let here : GoodNode P i = g.node i f.inside in
       record {
         below_lo = λ j h. omega (arith, here.below j h, f.inside, f.room_lo);
@@ -168,7 +168,7 @@ pub filled_all :
     → Fills s los his los' his'
 filled_all s los his los' his' i n e = rw n at e
 
-module _ (s los his : List ℕ) (u : Unfilled s los his) where
+module _ (s los his : List ℕ) (a : checked s ≡ Accepted) (u : Unfilled s los his) where
   abbrev before : Pairs
   before = pairs_of los his
 
@@ -176,7 +176,7 @@ module _ (s los his : List ℕ) (u : Unfilled s los his) where
   room = (u.room_lo, u.room_hi)
 
   good : Good (problem s)
-  good = good_of s u.accepted
+  good = good_of s a
 
   -- those of the first i nodes are
   pub fillable :
@@ -187,7 +187,6 @@ module _ (s los his : List ℕ) (u : Unfilled s los his) where
   fillable los' his' i e l =
       let long = length_fill_up (problem s) before i in
       record {
-        accepted = u.accepted;
         room_lo = omega (arith, u.room_lo, ap (λ (w : Pairs). length w.los) e, long.0);
         room_hi = omega (arith, u.room_hi, ap (λ (w : Pairs). length w.his) e, long.1);
         inside = l;
@@ -204,7 +203,7 @@ module _ (s los his : List ℕ) (u : Unfilled s los his) where
       let same : (n : ℕ) → n < (problem s).nodes → pair_in (pairs_of los' his') n ≡ pair_in (pairs (problem s)) n =
       λ n l. ap (λ (w : Pairs). pair_in w n) e ∙ pairs_filled (problem s) good before room n l in
       record {
-        accepted = u.accepted;
+        accepted = a;
         room_lo = omega (arith, u.room_lo, ap (λ (w : Pairs). length w.los) e, long.0);
         room_hi = omega (arith, u.room_hi, ap (λ (w : Pairs). length w.his) e, long.1);
         lo = λ n l. ap (λ (p : Pair). p.lo) (same n l);
@@ -233,17 +232,17 @@ node_there s i a h = node_inside (accepted_facts s a) i h
 
 -- ---- node i of an accepted problem, as it was read
 
-module _ (s vs : List ℕ) (i : ℕ) {m : Node} (e : m ≡ node_at s i) where
+module _ (s vs : List ℕ) (i : ℕ) {m : Node} (e : m ≡ node_at s i) (a : checked s ≡ Accepted) where
   -- its operands have lower ids
   pub operands_below : Evaluable s vs i → (j : ℕ) → j < (shape_of m.kind).operands → at (ids m) j < i
   unfolding problem
-  operands_below v j h = rw e (((good_of s v.accepted).node i v.inside).below j (rw e at h))
+  operands_below v j h = rw e (((good_of s a).node i v.inside).below j (rw e at h))
 
   -- it has a width
   pub sized : Evaluable s vs i → (1 ≤ m.width) × (m.width ≤ 64)
   unfolding problem
-  sized v = let g = (good_of s v.accepted).node i v.inside in rw e (g.some, g.wide)
+  sized v = let g = (good_of s a).node i v.inside in rw e (g.some, g.wide)
 
   -- and the bytes of its operand a are there
   pub first_readable : Evaluable s vs i → Readable s m.a
-  first_readable v = rw e (node_there s (node_at s i).a v.accepted (first_inside s vs i v))
+  first_readable v = rw e (node_there s (node_at s i).a a (first_inside s vs i a v))

@@ -4,7 +4,6 @@ use Rattle.std.proofs.Math.ListN.{get_or}
 use Rattle.operators.specs.declared.meaning.Op.{Op}
 use Rattle.fixed.specs.declared.Pair.{Pair}
 use Rattle.fixed.specs.Fixed.{pair}
-use Rattle.operators.specs.inner.Ready.{Ready}
 use Rattle.fixed.specs.inner.Pairs.{Ternary, Agreeing, PairsReady}
 use Rattle.picking.specs.declared.spot.Spot.{Spot}
 use Rattle.picking.specs.Spot.{at, Fair}

@@ -1,6 +1,6 @@
 -- What `taken_at` takes from the definitions: whether a node is to be evaluated, and what each arm of its match knows.
-use Rattle.std.specs.Prelude.{◌≡◌, refl, Bool, true, false, ◌⊎◌, List, ℕ, zero, suc, ◌≤◌, ◌<◌, ltb, length, get_or}
-use Rattle.std.proofs.Common.{sym, ◌∙◌, true≢false, inl, inr, arith, lt-ltb, ltb-true, ltb-false}
+use Rattle.std.specs.Prelude.{◌≡◌, refl, Bool, true, false, ◌⊎◌, List, ℕ, zero, suc, ◌≤◌, ◌<◌, ltb, length, get_or, Option, Some, None}
+use Rattle.std.proofs.Common.{sym, ◌∙◌, true≢false, inl, inr, arith, le_refl, lt-ltb, ltb-true, ltb-false}
 use Rattle.std.specs.Int.Bits.{bit_or, or_add_and, or_zero_l}
 use Rattle.std.proofs.lemmas.Nat.{and_le_l, and_le_r}
 use mir.Val.{bool_byte}
@@ -10,11 +10,9 @@ use Rattle.operators.specs.Table.{kind_of, shape_of}
 use Rattle.operators.specs.Meaning.{meaning, Fit}
 use Rattle.picking.specs.declared.spot.Three.{Three}
 use Rattle.picking.specs.laws.Positions.{few_positions}
-use Rattle.nodes.specs.declared.due.Operands.{Operands}
-use Rattle.nodes.specs.declared.due.Operands.TheVariants.{Are, Undue}
-use Rattle.nodes.specs.declared.values.Taken.TheVariants.{Value, Nothing}
-use Rattle.nodes.specs.Problem.{one_of, problem, value_of}
-use Rattle.nodes.specs.inner.Nodes.{operand_count, held_in, Evaluable, operand_at, Tells, ReadsMarked, Wanted, Askable, Offered, Offered.offered, Offered.withheld, Takes, Takes.value, Takes.nothing}
+use Rattle.problem.specs.Refusals.{Accepted, checked}
+use Rattle.nodes.specs.Problem.{one_of, problem}
+use Rattle.nodes.specs.inner.Nodes.{operand_count, OperandsBelow, held_in, Evaluable, operand_at, Tells, ReadsMarked, Wanted, Askable, Offered, Offered.offered, Offered.withheld, Takes, Takes.value, Takes.nothing}
 use Rattle.nodes.specs.laws.Readings.{held_ready, held_value, own_value, value_of_constant, operands_below}
 
 -- ---- whether a node is to be evaluated
@@ -96,57 +94,73 @@ module _ (marks : List ℕ) (n : Node) (all : Bool) (k : ℕ) where
 pub askable :
     {s vs : List ℕ} {i k count marks : ℕ} {m : Node}
     → m ≡ node_at s i
-    → Evaluable s vs i × ((problem s).nodes ≤ marks)
+    → checked s ≡ Accepted
+    → Evaluable s vs i
+    → (problem s).nodes ≤ marks
     → m.kind ≡ k
     → count ≡ (shape_of k).operands
     → Askable m count (length vs) marks
-askable {s} {vs} {i} e v h q =
+askable {s} {vs} {i} e a v room h q =
     record {
       counted = rw h q;
-      valued = λ j l. omega (arith, operands_below s vs i e v.0 j l, v.0.inside, v.0.places);
-      marked = λ j l. omega (arith, operands_below s vs i e v.0 j l, v.0.inside, v.1);
+      valued = λ j l. omega (arith, operands_below s vs i e a v j l, v.inside, v.places);
+      marked = λ j l. omega (arith, operands_below s vs i e a v j l, v.inside, room);
     }
+
+-- the same one by one
+pub operands_valued : {s vs : List ℕ} {i : ℕ} {m : Node} → m ≡ node_at s i → checked s ≡ Accepted → Evaluable s vs i → OperandsBelow m (length vs)
+operands_valued e a v = (askable e a v (le_refl _) refl refl).valued
+
+pub operands_marked :
+    {s vs : List ℕ} {i : ℕ} (marks : List ℕ) {m : Node}
+    → m ≡ node_at s i
+    → checked s ≡ Accepted
+    → Evaluable s vs i
+    → (problem s).nodes ≤ length marks
+    → OperandsBelow m (length marks)
+operands_marked marks e a v room = (askable e a v room refl refl).marked
 
 -- what is offered is what the operands hold, of a node that is to be evaluated
 held :
-    {all : Bool} {marks vs : List ℕ} {m : Node} {x : Three} {r : Operands}
+    {all : Bool} {marks vs : List ℕ} {m : Node} {x : Three} {r : Option Three}
     → Offered all marks vs m r
-    → r ≡ Are x
+    → r ≡ Some x
     → (x ≡ held_in vs m) × Wanted all marks m
 held {all} {marks} {vs} {m} {x} o q = are (rw q at o)
   where
-    are : Offered all marks vs m (Are x) → (x ≡ held_in vs m) × Wanted all marks m
+    are : Offered all marks vs m (Some x) → (x ≡ held_in vs m) × Wanted all marks m
     are (offered w z) = (z, w)
 
 module _ {s vs marks : List ℕ} {i : ℕ} {all : Bool} {m : Node} (e : m ≡ node_at s i) where
   -- a variable, or a constant
-  pub own_taken : m.kind ≡ 0 → all ≡ true → Takes s i all vs marks (Value (get_or vs i 0))
+  pub own_taken : m.kind ≡ 0 → all ≡ true → Takes s i all vs marks (Some (get_or vs i 0))
   own_taken k a = value (inl a) (own_value s vs i (rw e at k))
 
-  pub constant_taken : m.kind ≡ 1 → all ≡ true → Takes s i all vs marks (Value m.lo)
+  pub constant_taken : m.kind ≡ 1 → all ≡ true → Takes s i all vs marks (Some m.lo)
   constant_taken k a = value {x = m.lo} (inl a) (rw e (value_of_constant s vs i (rw e at k)))
 
-  pub own_kept : 0 ≡ operand_count m → all ≡ false → Takes s i all vs marks Nothing
+  pub own_kept : 0 ≡ operand_count m → all ≡ false → Takes s i all vs marks None
   own_kept q a = nothing (λ w. elim w [ inl b ↦ true≢false (sym b ∙ a) | inr r ↦ omega (arith, r.there, rw e at q) ])
 
   -- an operator that is not to be evaluated
-  pub kept : {r : Operands} → Offered all marks vs m r → r ≡ Undue → Takes s i all vs marks Nothing
+  pub kept : {r : Option Three} → Offered all marks vs m r → r ≡ None → Takes s i all vs marks None
   kept o q = not_due (rw q at o)
     where
-      not_due : Offered all marks vs m Undue → Takes s i all vs marks Nothing
+      not_due : Offered all marks vs m None → Takes s i all vs marks None
       not_due (withheld x) = nothing (λ w. x (rw e w))
 
   -- one that is, of kind k: its operands hold x
-  module _ {k : ℕ} {x : Three} {r : Operands} (o : Offered all marks vs m r) (q : r ≡ Are x) (h : m.kind ≡ k) (l : 2 ≤ k) where
+  module _ {k : ℕ} {x : Three} {r : Option Three} (o : Offered all marks vs m r) (q : r ≡ Some x) (h : m.kind ≡ k) (l : 2 ≤ k) where
     -- they fit the width rule of the kind
     pub fits :
-        Evaluable s vs i
+        checked s ≡ Accepted
+        → Evaluable s vs i
         → Fit (shape_of k).rule m.width (width_at s m.a) (width_at s m.b) m.b x.a x.b x.c
-    fits v = rw (← h, (held o q).0, e) (held_ready s vs i v (rw e at (rw (← h) at l))).fit
+    fits a v = rw (← h, (held o q).0, e) (held_ready s vs i a v (rw e at (rw (← h) at l))).fit
 
     -- and what the kind means is the value
     pub taken :
         {y : ℕ}
         → y ≡ meaning (kind_of k) m.width (width_at s m.a) (width_at s m.b) m.b x.a x.b x.c
-        → Takes s i all vs marks (Value y)
+        → Takes s i all vs marks (Some y)
     taken p = value (rw e at (held o q).1) (p ∙ rw (← h, (held o q).0, e) (held_value s vs i (rw e at (rw (← h) at l))))

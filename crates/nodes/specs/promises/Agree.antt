@@ -1,8 +1,7 @@
 -- Document 01, "Fixed bits of inner nodes": "For every assignment that agrees with the variables' pairs, every node's value agrees
 -- with its own pair."
 use Rattle.std.specs.Prelude.{◌≡◌, List, ℕ}
-use Rattle.problem.specs.declared.Checked.TheVariants.{Accepted}
-use Rattle.problem.specs.Refusals.{checked}
+use Rattle.problem.specs.Refusals.{Accepted, checked}
 use Rattle.nodes.specs.Problem.{problem}
 use Rattle.nodes.specs.Values.{Evaluated, VariablesAgree, NodesAgree}
 use Rattle.nodes.specs.laws.Good.{good_of}

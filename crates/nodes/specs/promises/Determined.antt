@@ -1,13 +1,11 @@
 -- The contract of each public function determines its result and every lent place: any two that it allows are equal.
-use Rattle.std.specs.Prelude.{◌≡◌, refl, List, Bool, ℕ}
+use Rattle.std.specs.Prelude.{◌≡◌, refl, List, Bool, ℕ, Option, Some}
 use Rattle.std.proofs.Common.{sym, ap, ◌∙◌}
 use Rattle.problem.specs.declared.layout.Node.{Node}
 use Rattle.picking.specs.declared.spot.Spot.{Spot}
 use Rattle.picking.specs.Spot.{at}
 use Rattle.nodes.specs.Problem.{Pairs}
 use Rattle.nodes.specs.inner.Nodes.{ids, Fills, spot_in, Takes, Takes.value, Takes.nothing}
-use Rattle.nodes.specs.declared.values.Taken.{Taken}
-use Rattle.nodes.specs.declared.values.Taken.TheVariants.{Value}
 
 -- where the contract is an equation
 equal : {A : Type 0} {v r s : A} → r ≡ v → s ≡ v → r ≡ s
@@ -15,8 +13,8 @@ equal p q = p ∙ sym q
 
 -- whether it is to be evaluated is told by the marks, so one of the two answers is ruled out
 pub taken_at_determined :
-    {s vs marks : List ℕ} {i : ℕ} {all : Bool} {r t : Taken} → Takes s i all vs marks r → Takes s i all vs marks t → r ≡ t
-taken_at_determined (value w e) (value w' e') = ap Value (equal e e')
+    {s vs marks : List ℕ} {i : ℕ} {all : Bool} {r t : Option ℕ} → Takes s i all vs marks r → Takes s i all vs marks t → r ≡ t
+taken_at_determined (value w e) (value w' e') = ap Some (equal e e')
 taken_at_determined (value w e) (nothing x) = absurd (x w)
 taken_at_determined (nothing x) (value w e) = absurd (x w)
 taken_at_determined (nothing x) (nothing y) = refl

@@ -1,8 +1,10 @@
 -- What the operators' sets ask and how their equations speak of two positions.
-use Rattle.std.specs.Prelude.{◌≡◌, ℕ, zero, suc, ◌+◌, ◌-◌, ◌/◌, ◌%◌, ◌^◌, ◌<◌, ◌≤◌, Bool, true, false, ◌⊎◌, ◌≢◌}
+use Rattle.std.specs.Prelude.{◌≡◌, ℕ, zero, suc, ◌+◌, ◌-◌, ◌/◌, ◌%◌, ◌^◌, ◌<◌, ◌≤◌, ◌⊎◌, ◌≢◌}
 use Rattle.words.specs.Agree.{Agrees}
 use Rattle.picking.specs.declared.spot.Three.{Three}
 use Rattle.picking.specs.declared.spot.Spot.{Spot}
+use Rattle.picking.specs.declared.picks.Values.{Values}
+use Rattle.picking.specs.declared.picks.Values.TheVariants.{Inverse as InverseOnes, Consistent as ConsistentOnes}
 use Rattle.picking.specs.Spot.{at, put, value, Inverse, Reaches, Consistent}
 
 -- a target of a width of at most 64 bits
@@ -65,11 +67,11 @@ HadIf los his t zero v = Agrees (at los (branch_of v)) (at his (branch_of v)) t
 HadIf los his t (suc i) v = Had los.a his.a (1 - i) v (at los (2 - i)) (at his (2 - i)) t
 
 -- what is asked of a value at position i besides that it agrees: that it gives t with the others as they are, or with some
-abbrev pub Meets : Bool → Spot → ℕ → ℕ → ℕ → Type 0
-Meets true S t i v = value S (put S.current i v) ≡ t
-Meets false S t i v = Reaches S t i v
+abbrev pub Meets : Values → Spot → ℕ → ℕ → ℕ → Type 0
+Meets InverseOnes S t i v = value S (put S.current i v) ≡ t
+Meets ConsistentOnes S t i v = Reaches S t i v
 
 -- the inverse or the consistent set
-abbrev pub Wanted : Bool → Spot → ℕ → ℕ → ℕ → Type 0
-Wanted true = Inverse
-Wanted false = Consistent
+abbrev pub Wanted : Values → Spot → ℕ → ℕ → ℕ → Type 0
+Wanted InverseOnes = Inverse
+Wanted ConsistentOnes = Consistent

@@ -5,11 +5,9 @@ use native.Mathlib.Omega.{arith}
 use Rattle.words.specs.Agree.{Within}
 use Rattle.operators.specs.Table.{shape_of, RuleMet, rule_holds}
 use Rattle.operators.specs.laws.Table.{rule_met, rule_tested}
-use Rattle.problem.specs.declared.Checked.{Checked}
-use Rattle.problem.specs.declared.Checked.TheVariants.{Accepted}
 use Rattle.problem.specs.declared.layout.Node.{Node}
 use Rattle.problem.specs.Layout.{node_count, root_count, node_at, width_at, root_start, root_at}
-use Rattle.problem.specs.Refusals.{◌then◌, first_below, bit_outside, mark_wrong, division_wide, operand_above, stray_field, pair_broken, header_lines, header_fault, node_lines, fault_of, node_fault, root_lines, root_fault, root_before, repeat_lines, repeat_fault, checked}
+use Rattle.problem.specs.Refusals.{Checked, Accepted, ◌then◌, first_below, bit_outside, mark_wrong, division_wide, operand_above, stray_field, pair_broken, header_lines, header_fault, node_lines, fault_of, node_fault, root_lines, root_fault, root_before, repeat_lines, repeat_fault, checked}
 use Rattle.problem.specs.inner.Facts.{HeaderFacts, NodeFacts, Facts}
 use Rattle.problem.specs.laws.Tests.{lt_yes, lt_no, le_yes, le_no, eq_yes, eq_no, not_no, or_no, and_no}
 use Rattle.problem.specs.laws.First.{then_left, then_right, then_accepted, NoneOf, none_of, of_none, first_each, first_all}

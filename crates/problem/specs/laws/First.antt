@@ -1,14 +1,12 @@
 -- Laws of the first refusal: of two answers, of the lines of a list, and of the places below a number.
-use Rattle.std.specs.Prelude.{◌≡◌, Bool, true, false, cond, ◌&&◌, List, [], ◌∷◌, ◌++◌}
+use Rattle.std.specs.Prelude.{Err as Refused, Ok, ◌≡◌, Bool, true, false, cond, ◌&&◌, List, [], ◌∷◌, ◌++◌}
 use Rattle.std.proofs.Math.Path.{refl, ap}
 use Rattle.std.proofs.Common.{sym, ◌∙◌, add-one, arith, not-suc-le-zero, le_of_suc-le-suc, eq-or-lt_of_le}
 use Rattle.std.proofs.lemmas.Bool.{false≢true}
 use Rattle.std.proofs.Math.Logic.{⊎_elim}
 use Prim.Native.Nat.{ℕ, zero, suc, ◌+◌, ◌≤◌, ◌<◌}
-use Rattle.problem.specs.declared.Checked.{Checked}
-use Rattle.problem.specs.declared.Checked.TheVariants.{Accepted, Refused}
 use Rattle.problem.specs.declared.Refusal.{Refusal}
-use Rattle.problem.specs.Refusals.{refusal, Line, first_of, ◌then◌, first_below}
+use Rattle.problem.specs.Refusals.{Checked, Accepted, refusal, Line, first_of, ◌then◌, first_below}
 
 pub refused_not : {r : Refusal} → Refused r ≡ Accepted → ⊥
 refused_not h = let z : ◌≡◌ {A = ℕ} 0 1 = cc in omega arith
@@ -16,27 +14,22 @@ refused_not h = let z : ◌≡◌ {A = ℕ} 0 1 = cc in omega arith
 -- of two
 
 pub then_accepted : (x y : Checked) → x ≡ Accepted → (x then y) ≡ y
-unfolding ◌then◌
 then_accepted x y h = rw h
 
 pub then_refused : (x y : Checked) (r : Refusal) → x ≡ Refused r → (x then y) ≡ Refused r
-unfolding ◌then◌
 then_refused x y r h = rw h
 
 pub then_left : (x y : Checked) → (x then y) ≡ Accepted → x ≡ Accepted
-unfolding ◌then◌
-then_left Accepted y h = refl
+then_left (Ok tt) y h = refl
 then_left (Refused r) y h = h
 
 pub then_right : (x y : Checked) → (x then y) ≡ Accepted → y ≡ Accepted
-unfolding ◌then◌
-then_right Accepted y h = h
+then_right (Ok tt) y h = h
 then_right (Refused r) y h = absurd (refused_not h)
 
 -- what holds of the refusals of both holds of the first
 pub then_each : (P : Checked → Type 0) (x y : Checked) → P x → P y → P (x then y)
-unfolding ◌then◌
-then_each P Accepted y p q = q
+then_each P (Ok tt) y p q = q
 then_each P (Refused r) y p q = p
 
 -- of a list of lines
@@ -74,7 +67,6 @@ of_none p (l ∷ ls) n = rw n.0 (of_none p ls n.1)
 
 -- a line after the others
 line_step : (p : ℕ) (k : ℕ) (t : Bool) (x y z : Checked) → (x then y) ≡ z → (cond t (refusal k p) x then y) ≡ cond t (refusal k p) z
-unfolding ◌then◌
 line_step p k true x y z e = refl
 line_step p k false x y z e = e
 
@@ -121,17 +113,14 @@ first_of_each P p f (l ∷ ls) t h z =
 
 module _ (f : ℕ → Checked) where
   pub first_none : first_below f 0 ≡ Accepted
-  unfolding first_below
   first_none = refl
 
   -- one place more is accepted
   pub first_more : (i : ℕ) (x : Checked) → first_below f i ≡ Accepted → x ≡ f i → x ≡ Accepted → first_below f (i + 1) ≡ Accepted
-  unfolding first_below ◌then◌
   first_more i x p q e = rw (add-one, p, ← q, e)
 
   -- the refusal at i, below which there is none, is the first below each number above i
-  first_found : (i n : ℕ) (r : Refusal) → first_below f i ≡ Accepted → f i ≡ Refused r → i < n → first_below f n ≡ Refused r
-  unfolding first_below ◌then◌
+  pub first_found : (i n : ℕ) (r : Refusal) → first_below f i ≡ Accepted → f i ≡ Refused r → i < n → first_below f n ≡ Refused r
   first_found i zero r p q h = absurd (not-suc-le-zero h)
   first_found i (suc n) r p q h =
       ⊎_elim
@@ -154,19 +143,16 @@ module _ (f : ℕ → Checked) where
 
   -- none is refused exactly if each place is accepted
   pub first_each : (n : ℕ) → first_below f n ≡ Accepted → (k : ℕ) → k < n → f k ≡ Accepted
-  unfolding first_below
   first_each zero p k h = absurd (not-suc-le-zero h)
   first_each (suc n) p k h =
       ⊎_elim (λ (e : k ≡ n). ap f e ∙ then_right (first_below f n) (f n) p)
       (λ (l : k < n). first_each n (then_left (first_below f n) (f n) p) k l) (eq-or-lt_of_le (le_of_suc-le-suc h))
 
   pub first_all : (n : ℕ) → ((k : ℕ) → k < n → f k ≡ Accepted) → first_below f n ≡ Accepted
-  unfolding first_below
   first_all zero h = refl
   first_all (suc n) h = then_accepted _ _ (first_all n (λ k l. h k (omega arith))) ∙ h n (omega arith)
 
   -- what holds of acceptance and of each place's answer holds of the first refusal
   pub first_below_each : (P : Checked → Type 0) → P Accepted → (n : ℕ) → ((k : ℕ) → k < n → P (f k)) → P (first_below f n)
-  unfolding first_below
   first_below_each P a zero h = a
   first_below_each P a (suc n) h = then_each P _ _ (first_below_each P a n (λ k l. h k (omega arith))) (h n (omega arith))

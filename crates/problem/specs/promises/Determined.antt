@@ -1,11 +1,11 @@
 -- The contract of each public function determines its result: any two results that it allows are equal.
 use Rattle.std.specs.Prelude.{◌≡◌, Bool, cond, List, ℕ, ◌^◌, leb}
 use Rattle.std.proofs.Common.{sym, ◌∙◌}
-use Rattle.problem.specs.declared.Checked.{Checked}
-use Rattle.problem.specs.declared.Checked.TheVariants.{Accepted}
 use Rattle.problem.specs.declared.layout.Node.{Node}
+use Rattle.problem.specs.declared.fault.Fault.{Fault}
+use Rattle.problem.specs.Faults.{fault_number}
 use Rattle.problem.specs.Layout.{le16, le32, le64, node_count, root_count, node_of, node_at, width_at, root_at}
-use Rattle.problem.specs.Refusals.{refusal, ◌then◌, operand_above, header_fault, node_fault, checked}
+use Rattle.problem.specs.Refusals.{Checked, Accepted, refusal, ◌then◌, operand_above, header_fault, node_fault, first_below, checked}
 
 -- where the contract is an equation
 equal : {A : Type 0} {v r s : A} → r ≡ v → s ≡ v → r ≡ s
@@ -20,6 +20,19 @@ pub line_determined :
     → s ≡ (before then cond given (refusal number place) Accepted)
     → r ≡ s
 line_determined before number given place r s = equal
+
+pub refuse_if_determined :
+    (given : Bool) (f : Fault) (place : ℕ) (r s : Checked)
+    → r ≡ cond given (refusal (fault_number f) place) Accepted
+    → s ≡ cond given (refusal (fault_number f) place) Accepted
+    → r ≡ s
+refuse_if_determined given f place r s = equal
+
+pub first_refusal_determined : (f : ℕ → Checked) (count : ℕ) (r s : Checked) → r ≡ first_below f count → s ≡ first_below f count → r ≡ s
+first_refusal_determined f count r s = equal
+
+pub number_determined : (f : Fault) (r s : ℕ) → r ≡ fault_number f → s ≡ fault_number f → r ≡ s
+number_determined f r s = equal
 
 pub header_fault_determined : (problem : List ℕ) (r s : Checked) → r ≡ header_fault problem → s ≡ header_fault problem → r ≡ s
 header_fault_determined problem r s = equal

@@ -5,10 +5,8 @@ use Rattle.std.proofs.Common.{ap, inl, inr, leb-true, eqb-true}
 use Rattle.std.proofs.lemmas.Bool.{false≢true}
 use Rattle.std.proofs.Math.Logic.{⊎_elim}
 use native.Mathlib.Omega.{arith}
-use Rattle.problem.specs.declared.Checked.{Checked}
-use Rattle.problem.specs.declared.Checked.TheVariants.{Accepted}
 use Rattle.problem.specs.Layout.{node_count, root_count}
-use Rattle.problem.specs.Refusals.{refusal, number_of, place_of, header_lines, header_fault, node_lines, fault_of, node_fault, root_lines, root_fault, repeat_lines, repeat_fault, checked}
+use Rattle.problem.specs.Refusals.{Checked, Accepted, refusal, number_of, place_of, header_lines, header_fault, node_lines, fault_of, node_fault, root_lines, root_fault, repeat_lines, repeat_fault, checked}
 use Rattle.problem.specs.laws.First.{then_each, first_of_each, first_below_each}
 
 -- "A refusal names its place (node id for 7 to 12 .., root position for 13, else 0)" and, with 02, the node id for 20 and "the later

@@ -2,7 +2,6 @@
 use Rattle.std.specs.Prelude.{◌≡◌, refl, List, [], ◌∷◌, ◌++◌, ℕ, ◌+◌, ◌*◌, ◌%◌, ◌≤◌, length, get_or, take, drop}
 use Rattle.std.proofs.Common.{sym, ap, ◌∙◌, subst, append_assoc, arith, length-append, take-append-drop}
 use Rattle.std.proofs.Math.Seq.{take-append_seam}
-use Rattle.problem.specs.declared.Checked.TheVariants.{Accepted}
 use Rattle.search.specs.declared.Verdict.{Verdict}
 use Rattle.search.specs.declared.Answer.{Answer}
 use Rattle.search.specs.Answers.{said}
@@ -18,6 +17,7 @@ use Rattle.search.specs.laws.Runs.{same_name, run_concluded}
 use Rattle.moves.specs.promises.Determined.{move_unique, two_ends}
 use Rattle.search.specs.promises.Determined.{not_both, called_unique}
 use Rattle.search.specs.Passing.{Longer, Only, Passes, Passes.here, Passes.after_set, Passes.after_held, Through}
+use Rattle.problem.specs.Refusals.{Accepted}
 
 -- ---- the same words again
 

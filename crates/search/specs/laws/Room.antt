@@ -2,8 +2,6 @@
 use Rattle.std.specs.Prelude.{◌≡◌, refl, List, ℕ, zero, suc, ◌*◌, ◌≤◌, length, get_or, replicate}
 use Rattle.std.proofs.Common.{arith}
 use Rattle.std.proofs.lemmas.List.{length-replicate}
-use Rattle.problem.specs.declared.Checked.TheVariants.{Accepted}
-use Rattle.problem.specs.Refusals.{checked}
 use Rattle.nodes.specs.Problem.{problem}
 use Rattle.search.specs.inner.Run.{Unprepared}
 
@@ -18,11 +16,10 @@ long n = length-replicate {A = ℕ} n 0
 -- arrays of zeros for at least as many nodes as there are
 pub unprepared :
     {s : List ℕ} (n : ℕ)
-    → checked s ≡ Accepted
     → (problem s).nodes ≤ n
     → Unprepared s (replicate n 0) (replicate n 0) (replicate (4 * n) 0)
-unprepared n a h =
+unprepared n h =
     record {
-      unfilled = record { accepted = a; room_lo = rw (long n) h; room_hi = rw (long n) h };
-      unindexed = record { accepted = a; room = rw (long (4 * n)) (omega arith); none = all_zero (4 * n) };
+      unfilled = record { room_lo = rw (long n) h; room_hi = rw (long n) h };
+      unindexed = record { room = rw (long (4 * n)) (omega arith); none = all_zero (4 * n) };
     }

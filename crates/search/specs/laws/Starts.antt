@@ -1,13 +1,12 @@
 -- Laws of refusals 14 and 15: what each tests, and that only the variables' places bear on them.
-use Rattle.std.specs.Prelude.{◌≡◌, refl, ◌↔◌, Bool, false, List, [], ◌∷◌, ℕ, zero, suc, ◌≤◌, ◌<◌, length, get_or}
+use Rattle.std.specs.Prelude.{Err as Refused, Ok, ◌≡◌, refl, ◌↔◌, Bool, true, false, not, List, [], ◌∷◌, ℕ, zero, suc, ◌≤◌, ◌<◌, length, get_or}
 use Rattle.std.proofs.Common.{ap₂, ◌∙◌, arith, lt-suc_self, ne_eqb}
 use Rattle.std.proofs.Math.Decide.{ℕ_discrete}
 use Rattle.words.specs.Agree.{Agrees}
+use Rattle.words.specs.inner.Decides.{Decides}
 use Rattle.words.specs.laws.Agree.{agrees_of_within, lo_within, within_hi}
-use Rattle.problem.specs.declared.Checked.{Checked}
-use Rattle.problem.specs.declared.Checked.TheVariants.{Accepted, Refused}
 use Rattle.problem.specs.Layout.{node_count, node_at}
-use Rattle.problem.specs.Refusals.{first_of, ◌then◌, first_below, bit_outside}
+use Rattle.problem.specs.Refusals.{Checked, Accepted, first_of, ◌then◌, first_below, bit_outside}
 use Rattle.problem.specs.laws.Tests.{lt_no, eq_yes, or_no, and_no}
 use Rattle.problem.specs.laws.First.{none_of, of_none, then_accepted}
 use Rattle.problem.specs.laws.Facts.{within_right}
@@ -20,6 +19,15 @@ unfolding disagrees bit_outside
 agree_right lo hi v =
     let e = or_no (within_right lo v) (within_right v hi) in
     (λ h. agrees_of_within (e.0 h).0 (e.0 h).1, λ a. e.1 (lo_within a, within_hi a))
+
+-- what a test of a word against a pair says
+pub disagrees_is : (lo hi v : ℕ) (b : Bool) → Decides (Agrees lo hi v) b → disagrees lo hi v ≡ not b
+disagrees_is lo hi v true a = (agree_right lo hi v).1 a
+disagrees_is lo hi v false x = unlike (disagrees lo hi v) refl
+  where
+    unlike : (d : Bool) → disagrees lo hi v ≡ d → disagrees lo hi v ≡ true
+    unlike true e = e
+    unlike false e = absurd (x ((agree_right lo hi v).0 e))
 
 one_line : (p k : ℕ) (t : Bool) → (first_of p ((k, t) ∷ []) ≡ Accepted) ↔ (t ≡ false)
 one_line p k t = (λ h. (none_of p ((k, t) ∷ []) h).0, λ e. of_none p ((k, t) ∷ []) (e, tt))
@@ -42,7 +50,6 @@ module _ (s start : List ℕ) where
 
 -- two starts with the same variables
 first_same : (f g : ℕ → Checked) (n : ℕ) → ((i : ℕ) → i < n → f i ≡ g i) → first_below f n ≡ first_below g n
-unfolding first_below
 first_same f g zero h = refl
 first_same f g (suc n) h = ap₂ ◌then◌ (first_same f g n (λ i l. h i (omega arith))) (h n (lt-suc_self n))
 
@@ -62,8 +69,7 @@ refusals_same s start other e h =
 -- ---- refusals one after another
 
 pub then_assoc : (x y z : Checked) → ((x then y) then z) ≡ (x then y then z)
-unfolding ◌then◌
-then_assoc Accepted y z = refl
+then_assoc (Ok tt) y z = refl
 then_assoc (Refused r) y z = refl
 
 -- where the problem is accepted and the places are there, a call is refused by 15 alone

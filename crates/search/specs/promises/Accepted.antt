@@ -1,9 +1,8 @@
 -- Refusals 14 and 15 as facts: a call is accepted exactly if its problem is, there is a place for each node, and the variables agree.
 use Rattle.std.specs.Prelude.{◌≡◌, List, ℕ, ◌≤◌, length}
 use Rattle.std.proofs.Common.{◌∙◌}
-use Rattle.problem.specs.declared.Checked.TheVariants.{Accepted}
 use Rattle.problem.specs.Layout.{node_count}
-use Rattle.problem.specs.Refusals.{checked}
+use Rattle.problem.specs.Refusals.{Accepted, checked}
 use Rattle.problem.specs.laws.First.{then_left, then_right, then_accepted, first_each, first_all}
 use Rattle.nodes.specs.Problem.{problem}
 use Rattle.nodes.specs.Values.{VariablesAgree}

@@ -7,9 +7,8 @@ use Rattle.std.proofs.Math.Decide.{dec_lt}
 use Rattle.std.proofs.Math.ListN.{length}
 use Rattle.std.proofs.Math.Seq.{ext_get_or}
 use Rattle.problem.specs.declared.Refusal.{Refusal}
-use Rattle.problem.specs.declared.Checked.TheVariants.{Accepted, Refused}
 use Rattle.problem.specs.Layout.{node_count}
-use Rattle.problem.specs.Refusals.{number_of as refusal_number, place_of as refusal_place, checked}
+use Rattle.problem.specs.Refusals.{Accepted, number_of as refusal_number, place_of as refusal_place, checked}
 use Rattle.search.specs.declared.Verdict.{Verdict}
 use Rattle.search.specs.declared.Outcome.{Outcome}
 use Rattle.search.specs.declared.Answer.{Answer}

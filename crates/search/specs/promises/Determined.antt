@@ -1,9 +1,7 @@
 -- What the definitions of a run allow is one result: runs and whole calls are each determined.
-use Rattle.std.specs.Prelude.{◌≡◌, refl, Bool, List, ℕ, ◌*◌, ◌<◌, get_or}
+use Rattle.std.specs.Prelude.{Err as Refused, ◌≡◌, refl, Bool, List, ℕ, ◌*◌, ◌<◌, get_or}
 use Rattle.std.proofs.Common.{sym, ap, ◌∙◌, arith}
 use Rattle.words.specs.laws.Decides.{decides_unique}
-use Rattle.problem.specs.declared.Checked.{Checked}
-use Rattle.problem.specs.declared.Checked.TheVariants.{Accepted, Refused}
 use Rattle.problem.specs.declared.Refusal.{Refusal}
 use Rattle.problem.specs.laws.First.{refused_not}
 use Rattle.search.specs.declared.Answer.{Answer}
@@ -14,12 +12,14 @@ use Rattle.evaluation.specs.Readers.{Chain}
 use Rattle.nodes.specs.inner.Nodes.{Fills}
 use Rattle.nodes.specs.promises.Determined.{fill_determined}
 use Rattle.evaluation.specs.promises.Determined.{index_readers_determined}
-use Rattle.search.specs.inner.Run.{Prepared}
+use Rattle.search.specs.inner.Run.{Prepared, Readied}
+use Rattle.search.specs.declared.ready.Ready.{Ready}
 use Rattle.evaluation.specs.laws.Lists.{lists_unique}
 use Rattle.moves.specs.Moves.{sets, stuck}
 use Rattle.search.specs.Run.{Run, Run.model, Run.spent, Run.ended, Run.moved, Run.held, Whole, Whole.closed, Whole.searched}
 use Rattle.search.specs.Call.{Called, Called.refuses, Called.runs, refused}
 use Rattle.moves.specs.promises.Determined.{move_unique, two_ends}
+use Rattle.problem.specs.Refusals.{Checked, Accepted}
 
 -- ---- a run
 
@@ -127,6 +127,16 @@ pub prepare_determined :
     → ((los' ≡ los'') × (his' ≡ his'')) × (r ≡ r') × ((m : ℕ) (l l' : List ℕ) → m < (problem s).nodes → Chain slots' (get_or slots' (4 * m) 0) l → Chain slots'' (get_or slots'' (4 * m) 0) l' → l ≡ l')
 prepare_determined s los his los' his' slots' los'' his'' slots'' r r' p q =
     (fill_determined s los his los' his' los'' his'' p.1 q.1, decides_unique _ r r' p.0.decided q.0.decided, index_readers_determined s slots' slots'' p.0.indexed q.0.indexed)
+
+-- of `Ready::of`, which shows what `prepare` left
+pub ready_determined :
+    (s los his : List ℕ) (r r' : Ready)
+    → r.pairs.problem.bytes.now ≡ s
+    → r'.pairs.problem.bytes.now ≡ s
+    → Readied r × Fills s los his r.pairs.los.now r.pairs.his.now
+    → Readied r' × Fills s los his r'.pairs.los.now r'.pairs.his.now
+    → ((r.pairs.los.now ≡ r'.pairs.los.now) × (r.pairs.his.now ≡ r'.pairs.his.now)) × (r.closed ≡ r'.closed) × ((m : ℕ) (l l' : List ℕ) → m < (problem s).nodes → Chain r.slots.now (get_or r.slots.now (4 * m) 0) l → Chain r'.slots.now (get_or r'.slots.now (4 * m) 0) l' → l ≡ l')
+ready_determined s los his r r' e e' p q = prepare_determined s los his _ _ _ _ _ _ _ _ (rw e at p.0, p.1) (rw e' at q.0, q.1)
 
 -- of the codes of an answer
 pub verdict_code_determined : (o : Outcome) (r r' : ℕ) → r ≡ verdict_code o → r' ≡ verdict_code o → r ≡ r'

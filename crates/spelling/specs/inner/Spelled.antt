@@ -1,6 +1,6 @@
 -- The keywords as code groups them: by what must fit and by how a line is spelled out in nodes. Laws say that these are the definitions of
 -- Nodes, keyword by keyword.
-use Rattle.std.specs.Prelude.{Bool, true, cond, ◌&&◌, ◌||◌, not, List, [], ◌∷◌, ◌++◌, ℕ, zero, suc, ◌+◌, ◌-◌, ◌^◌, ltb, leb, eqb, length, get_or}
+use Rattle.std.specs.Prelude.{Bool, true, cond, ◌&&◌, List, [], ◌∷◌, ◌++◌, ℕ, ◌+◌, ◌-◌, ◌^◌, ltb, leb, eqb, length}
 use Rattle.problem.specs.declared.layout.Node.{Node}
 use Rattle.texts.specs.Numbers.{value_in}
 use Rattle.spelling.specs.declared.forms.Rule.{Rule}
@@ -13,7 +13,7 @@ use Rattle.spelling.specs.declared.line.Line.{Line}
 use Rattle.lines.specs.Lines.{Token}
 use Rattle.lines.specs.Words.{Word, word_of, sort, input, zeros, one, ones, const, constd, consth, inv, conj, disj, xor, add, sub, mul, sll, srl, sra, eq, neq, ult, slt, ite, concat, slice, uext, sext, constraint, other}
 use Rattle.lines.specs.Format.{signed, unsigned}
-use Rattle.spelling.specs.Nodes.{operator, constant_node, variable_node, invert, unless_zero, nots, placed}
+use Rattle.spelling.specs.Nodes.{operator, constant_node, variable_node, invert, unless_zero, nots}
 
 -- ---- what must fit
 
@@ -84,59 +84,27 @@ form_of ones = form.Constant
 form_of const = form.Constant
 form_of constd = form.Constant
 form_of consth = form.Constant
-form_of inv = form.Plain
-form_of conj = form.Plain
+form_of inv = form.Plain 2
+form_of conj = form.Plain 3
 form_of disj = form.Or
-form_of xor = form.Plain
-form_of add = form.Plain
+form_of xor = form.Plain 4
+form_of add = form.Plain 5
 form_of sub = form.Sub
-form_of mul = form.Plain
-form_of sll = form.Plain
-form_of srl = form.Plain
-form_of sra = form.Plain
-form_of eq = form.Plain
+form_of mul = form.Plain 6
+form_of sll = form.Plain 7
+form_of srl = form.Plain 8
+form_of sra = form.Plain 15
+form_of eq = form.Plain 9
 form_of neq = form.Neq
-form_of ult = form.Plain
-form_of slt = form.Plain
-form_of ite = form.Plain
-form_of concat = form.Plain
+form_of ult = form.Plain 10
+form_of slt = form.Plain 14
+form_of ite = form.Plain 11
+form_of concat = form.Plain 12
 form_of slice = form.Slice
 form_of uext = form.Uext
 form_of sext = form.Sext
 form_of constraint = form.Nothing
 form_of other = form.Nothing
-
--- the kind of a keyword whose form is Plain
-unfoldable pub kind_for : Word → ℕ
-kind_for sort = 0
-kind_for input = 0
-kind_for zeros = 1
-kind_for one = 1
-kind_for ones = 1
-kind_for const = 1
-kind_for constd = 1
-kind_for consth = 1
-kind_for inv = 2
-kind_for conj = 3
-kind_for disj = 0
-kind_for xor = 4
-kind_for add = 5
-kind_for sub = 0
-kind_for mul = 6
-kind_for sll = 7
-kind_for srl = 8
-kind_for sra = 15
-kind_for eq = 9
-kind_for neq = 0
-kind_for ult = 10
-kind_for slt = 14
-kind_for ite = 11
-kind_for concat = 12
-kind_for slice = 13
-kind_for uext = 0
-kind_for sext = 16
-kind_for constraint = 0
-kind_for other = 0
 
 -- or, sub, neq and uext, of which the first node has the id n
 unfoldable pub or_nodes : ℕ → ℕ → ℕ → ℕ → List Node
@@ -151,24 +119,24 @@ neq_nodes w n a b = operator 9 w a b 0 ∷ invert w n ∷ []
 unfoldable pub uext_nodes : ℕ → ℕ → ℕ → ℕ → List Node
 uext_nodes w n a p = constant_node p 0 ∷ operator 12 w n a 0 ∷ []
 
-unfoldable pub spelled_by : Form → ℕ → ℕ → ℕ → ℕ → ℕ → ℕ → ℕ → ℕ → ℕ → List Node
-spelled_by form.Nothing kind w n a b c p q v = []
-spelled_by form.Variable kind w n a b c p q v = variable_node w ∷ []
-spelled_by form.Constant kind w n a b c p q v = constant_node w v ∷ []
-spelled_by form.Plain kind w n a b c p q v = operator kind w a b c ∷ []
-spelled_by form.Slice kind w n a b c p q v = operator 13 w a q 0 ∷ []
-spelled_by form.Or kind w n a b c p q v = or_nodes w n a b
-spelled_by form.Sub kind w n a b c p q v = sub_nodes w n a b
-spelled_by form.Neq kind w n a b c p q v = neq_nodes w n a b
-spelled_by form.Uext kind w n a b c p q v = unless_zero p (uext_nodes w n a p)
-spelled_by form.Sext kind w n a b c p q v = unless_zero p (operator 16 w a 0 0 ∷ [])
+unfoldable pub spelled_by : Form → ℕ → ℕ → ℕ → ℕ → ℕ → ℕ → ℕ → ℕ → List Node
+spelled_by form.Nothing w n a b c p q v = []
+spelled_by form.Variable w n a b c p q v = variable_node w ∷ []
+spelled_by form.Constant w n a b c p q v = constant_node w v ∷ []
+spelled_by (form.Plain kind) w n a b c p q v = operator kind w a b c ∷ []
+spelled_by form.Slice w n a b c p q v = operator 13 w a q 0 ∷ []
+spelled_by form.Or w n a b c p q v = or_nodes w n a b
+spelled_by form.Sub w n a b c p q v = sub_nodes w n a b
+spelled_by form.Neq w n a b c p q v = neq_nodes w n a b
+spelled_by form.Uext w n a b c p q v = unless_zero p (uext_nodes w n a p)
+spelled_by form.Sext w n a b c p q v = unless_zero p (operator 16 w a 0 0 ∷ [])
 
 -- how many they are
 unfoldable pub own_count : Form → ℕ → ℕ
 own_count form.Nothing p = 0
 own_count form.Variable p = 1
 own_count form.Constant p = 1
-own_count form.Plain p = 1
+own_count (form.Plain kind) p = 1
 own_count form.Slice p = 1
 own_count form.Or p = 4
 own_count form.Sub p = 3
@@ -199,7 +167,7 @@ count_read x = nots_of x.ops + own_count (form_of (word_of x.word)) x.first
 unfoldable pub new_read : Line → ℕ → List Node
 new_read x n =
     nots (three_of x.ops)
-    ++ spelled_by (form_of (word_of x.word)) (kind_for (word_of x.word)) x.width (n + nots_of x.ops)
+    ++ spelled_by (form_of (word_of x.word)) x.width (n + nots_of x.ops)
     (placed_at x.ops.a n) (placed_at x.ops.b (n + one_if x.ops.a.negative)) (placed_at x.ops.c (n + one_if x.ops.a.negative + one_if x.ops.b.negative))
     x.first x.second x.literal.value
 

@@ -1,60 +1,29 @@
 -- Laws of constants: what fits a width, and two's complement.
-use Rattle.std.specs.Prelude.{◌≡◌, Bool, cond, not, ◌&&◌, ◌||◌, List, [], ◌∷◌, ℕ, zero, suc, ◌+◌, ◌-◌, ◌*◌, ◌/◌, ◌%◌, ◌^◌, ◌≤◌, ◌<◌, leb, length, get_or}
+use Rattle.std.specs.Prelude.{◌≡◌, Bool, cond, not, ◌&&◌, ◌||◌, List, [], ◌∷◌, ℕ, zero, suc, ◌+◌, ◌-◌, ◌*◌, ◌/◌, ◌^◌, ◌≤◌, ◌<◌, leb, length, Option, Some, None, ◌%◌}
 use Rattle.std.proofs.Math.Path.{refl}
-use Rattle.std.proofs.Common.{sym, ap, ◌∙◌, true≢false, pow-suc, mod-eq_of_lt, mul-le-mul_right}
+use Rattle.std.proofs.Common.{sym, ◌∙◌, true≢false, pow-suc, mod-eq_of_lt, mul-le-mul_right}
 use Rattle.std.proofs.Math.Bool.{true, false}
-use Rattle.std.proofs.lemmas.Bool.{false≢true}
 use native.Mathlib.Omega.{arith}
 use Rattle.std.proofs.Math.Nat.{pow-zero, mod_self}
 use Rattle.std.proofs.Math.Dec.{eqb, ltb, eqb-suc-zero}
-use Rattle.std.proofs.Math.Pow.{pow_pos, pow_mono, not_mod, le_ones}
-use borrow.Author.Tests.{eq-eqb, ne_eqb, lt-ltb, le-ltb, ltb-true, ltb-false, eqb-true, eqb-false, leb-true, leb-false, le-leb, lt-leb}
-use Rattle.texts.specs.declared.numbers.Number.{Number}
-use Rattle.texts.specs.declared.numbers.Number.TheVariants.{Small, Huge}
+use Rattle.std.proofs.Math.Pow.{pow_pos, pow_mono, not_mod}
+use borrow.Author.Tests.{ne_eqb, lt-ltb, le-ltb, ltb-true, ltb-false, eqb-true, eqb-false, leb-true, lt-leb}
 use Rattle.texts.specs.Numbers.{digit_of, all_in, digits_in, value_from, value_in, numbered}
 use Rattle.texts.specs.laws.Runs.{both_true}
-use Rattle.texts.specs.laws.Numbers.{huge_is, small_is, small_below}
+use Rattle.texts.specs.laws.Numbers.{huge_is, small_is}
 use Rattle.lines.specs.Lines.{Token}
 use Rattle.lines.specs.Words.{word_of, shape}
 use Rattle.lines.specs.Format.{signed, unsigned, is_constant, constant_of}
 use Rattle.spelling.specs.Nodes.{constant_value}
 use Rattle.spelling.specs.inner.Spelled.{short, most_of, constant_fits}
 use Rattle.spelling.specs.inner.Constants.{Told, Literally}
+use Rattle.std.proofs.lemmas.Bool.{false≢true}
 
--- ---- w ones
+-- ---- one of two
 
 or_false : (a b : Bool) → (a || b) ≡ false → (a ≡ false) × (b ≡ false)
 or_false true b e = absurd (true≢false e)
 or_false false b e = (refl, e)
-
-or_none : (a b : Bool) → a ≡ false → b ≡ false → (a || b) ≡ false
-or_none true b e f = e
-or_none false b e f = f
-
-pub ones_none : (w : ℕ) → (eqb w 0 || ltb 64 w) ≡ true → w ≤ 64 → 0 ≡ 2 ^ w - 1
-ones_none zero e h = refl
-ones_none (suc w) e h = absurd (by (ltb 64 (suc w)) refl)
-  where
-    by : (b : Bool) → ltb 64 (suc w) ≡ b → ⊥
-    by true l = let g : 64 < suc w = ltb-true 64 (suc w) l in omega arith
-    by false l = false≢true (sym (or_none (eqb (suc w) 0) (ltb 64 (suc w)) (eqb-suc-zero w) l) ∙ e)
-
-pub ones_range : (w : ℕ) → (eqb w 0 || ltb 64 w) ≡ false → (1 ≤ w) × (w ≤ 64)
-ones_range w e =
-    let p = or_false (eqb w 0) (ltb 64 w) e in
-    let n : w ≡ 0 → ⊥ = eqb-false w 0 p.0 in
-    let m : w ≤ 64 = ltb-false 64 w p.1 in
-    (some w n, m)
-  where
-    some : (x : ℕ) → (x ≡ 0 → ⊥) → 1 ≤ x
-    some x n = omega arith
-
-pub ones_cut : (w : ℕ) → w ≤ 64 → (2 ^ 64 - 1) % 2 ^ w ≡ 2 ^ w - 1
-ones_cut w h =
-    let e : (64 - w) + w ≡ 64 = omega arith in
-    let f : ((2 ^ ((64 - w) + w) - 1) - 0) % 2 ^ w ≡ (2 ^ w - 1) - 0 = not_mod {a = 0} (64 - w) w (pow_pos w) in
-    let g : (2 ^ w - 1) - 0 ≡ 2 ^ w - 1 = omega arith in
-    (rw e at f) ∙ g
 
 -- ---- the greatest number that fits
 
@@ -89,8 +58,8 @@ most_below base (suc w) t h = let z : suc w - 1 ≡ w = omega arith in rw z (by 
     by false = omega arith
 
 -- of a base other than 2, a constant u that is t without its sign, and its number
-module _ (base w : ℕ) (t u : Token) (r : Number) (n2 : base ≡ 2 → ⊥) (eu : u ≡ unsigned t) (er : r ≡ numbered (value_in base u)) where
-  pub fits_huge : r ≡ Huge → 1 ≤ w → w ≤ 64 → false ≡ constant_fits base w t
+module _ (base w : ℕ) (t u : Token) (r : Option ℕ) (n2 : base ≡ 2 → ⊥) (eu : u ≡ unsigned t) (er : r ≡ numbered (value_in base u)) where
+  pub fits_huge : r ≡ None → 1 ≤ w → w ≤ 64 → false ≡ constant_fits base w t
   unfolding constant_fits
   fits_huge y l h =
       let b : 2 ^ 64 ≤ value_in base u = huge_is _ (sym er ∙ y) in
@@ -98,7 +67,7 @@ module _ (base w : ℕ) (t u : Token) (r : Number) (n2 : base ≡ 2 → ⊥) (eu
       let p : 2 ^ w ≤ 2 ^ 64 = pow_mono h in
       rw (ne_eqb base 2 n2, ← eu, lt-leb (value_in base u) (most_of base w t) (omega (arith, pow_pos w)))
 
-  pub fits_small : (n m : ℕ) → r ≡ Small n → m ≡ most_of base w t → leb n m ≡ constant_fits base w t
+  pub fits_small : (n m : ℕ) → r ≡ Some n → m ≡ most_of base w t → leb n m ≡ constant_fits base w t
   unfolding constant_fits
   fits_small n m y e =
       let b : value_in base u ≡ n = small_is _ _ (sym er ∙ y) in
@@ -168,25 +137,25 @@ constant_below base w t l f g = by (eqb base 2) refl
 
 -- ---- a constant's value
 
-module _ (base w : ℕ) (t u : Token) (r : Number) (eu : u ≡ unsigned t) (er : r ≡ numbered (value_in base u)) (l : 1 ≤ w) (h : w ≤ 64)
+module _ (base w : ℕ) (t u : Token) (r : Option ℕ) (eu : u ≡ unsigned t) (er : r ≡ numbered (value_in base u)) (l : 1 ≤ w) (h : w ≤ 64)
     (f : constant_fits base w t ≡ true) (g : is_constant base t ≡ true) where
   below : value_in base u ≤ 2 ^ w - 1
   below = rw eu (constant_below base w t l f g)
 
-  pub value_huge : r ≡ Huge → 0 ≡ constant_value w (constant_of base t)
+  pub value_huge : r ≡ None → 0 ≡ constant_value w (constant_of base t)
   value_huge y =
       let b : 2 ^ 64 ≤ value_in base u = huge_is _ (sym er ∙ y) in
       let p : 2 ^ w ≤ 2 ^ 64 = pow_mono h in
       absurd (let k = below in omega (arith, pow_pos w))
 
-  number_is : (n : ℕ) → r ≡ Small n → value_in base (unsigned t) ≡ n
+  number_is : (n : ℕ) → r ≡ Some n → value_in base (unsigned t) ≡ n
   number_is n y = rw (← eu) (small_is _ _ (sym er ∙ y))
 
-  pub value_plain : (n : ℕ) (s : Bool) → r ≡ Small n → s ≡ signed t → s ≡ false → n ≡ constant_value w (constant_of base t)
+  pub value_plain : (n : ℕ) (s : Bool) → r ≡ Some n → s ≡ signed t → s ≡ false → n ≡ constant_value w (constant_of base t)
   unfolding constant_value constant_of
   value_plain n s y e z = rw (← e, z) (sym (number_is n y))
 
-  pub value_none : (n m : ℕ) (s : Bool) → r ≡ Small n → s ≡ signed t → s ≡ true → m ≡ 2 ^ w - 1 → (eqb n 0 || ltb m n) ≡ true
+  pub value_none : (n m : ℕ) (s : Bool) → r ≡ Some n → s ≡ signed t → s ≡ true → m ≡ 2 ^ w - 1 → (eqb n 0 || ltb m n) ≡ true
       → 0 ≡ constant_value w (constant_of base t)
   unfolding constant_value constant_of
   value_none n m s y e z q o =
@@ -201,7 +170,7 @@ module _ (base w : ℕ) (t u : Token) (r : Number) (eu : u ≡ unsigned t) (er :
           by true i = eqb-true n 0 i
           by false i = absurd (let j : m < n = ltb-true m n (rw i at o) in omega arith)
 
-  pub value_minus : (n m : ℕ) (s : Bool) → r ≡ Small n → s ≡ signed t → s ≡ true → m ≡ 2 ^ w - 1 → (eqb n 0 || ltb m n) ≡ false
+  pub value_minus : (n m : ℕ) (s : Bool) → r ≡ Some n → s ≡ signed t → s ≡ true → m ≡ 2 ^ w - 1 → (eqb n 0 || ltb m n) ≡ false
       → m - n + 1 ≡ constant_value w (constant_of base t)
   unfolding constant_value constant_of
   value_minus n m s y e z q o =
@@ -274,14 +243,44 @@ literally k w t b v a e f o = record { fits_is = rw e at f; value_is = o }
 
 -- ---- short numbers
 
-pub short_huge : (u : Token) (r : Number) → r ≡ numbered (value_in 10 u) → r ≡ Huge → 128 ≡ short (value_in 10 u)
+pub short_huge : (u : Token) (r : Option ℕ) → r ≡ numbered (value_in 10 u) → r ≡ None → 128 ≡ short (value_in 10 u)
 unfolding short
 short_huge u r q y = let b : 2 ^ 64 ≤ value_in 10 u = huge_is _ (sym q ∙ y) in rw (le-ltb (value_in 10 u) 128 (omega arith))
 
-pub short_small : (u : Token) (r : Number) (n : ℕ) → r ≡ numbered (value_in 10 u) → r ≡ Small n → n < 128 → n ≡ short (value_in 10 u)
+pub short_small : (u : Token) (r : Option ℕ) (n : ℕ) → r ≡ numbered (value_in 10 u) → r ≡ Some n → n < 128 → n ≡ short (value_in 10 u)
 unfolding short
 short_small u r n q y l = let b : value_in 10 u ≡ n = small_is _ _ (sym q ∙ y) in rw (b, lt-ltb n 128 l)
 
-pub short_wide : (u : Token) (r : Number) (n : ℕ) → r ≡ numbered (value_in 10 u) → r ≡ Small n → 128 ≤ n → 128 ≡ short (value_in 10 u)
+pub short_wide : (u : Token) (r : Option ℕ) (n : ℕ) → r ≡ numbered (value_in 10 u) → r ≡ Some n → 128 ≤ n → 128 ≡ short (value_in 10 u)
 unfolding short
 short_wide u r n q y l = let b : value_in 10 u ≡ n = small_is _ _ (sym q ∙ y) in rw (b, le-ltb n 128 l)
+
+-- all ones, as they are cut
+or_none : (a b : Bool) → a ≡ false → b ≡ false → (a || b) ≡ false
+or_none true b e f = e
+or_none false b e f = f
+
+pub ones_cut : (w : ℕ) → w ≤ 64 → (2 ^ 64 - 1) % 2 ^ w ≡ 2 ^ w - 1
+ones_cut w h =
+    let e : (64 - w) + w ≡ 64 = omega arith in
+    let f : ((2 ^ ((64 - w) + w) - 1) - 0) % 2 ^ w ≡ (2 ^ w - 1) - 0 = not_mod {a = 0} (64 - w) w (pow_pos w) in
+    let g : (2 ^ w - 1) - 0 ≡ 2 ^ w - 1 = omega arith in
+    (rw e at f) ∙ g
+
+pub ones_none : (w : ℕ) → (eqb w 0 || ltb 64 w) ≡ true → w ≤ 64 → 0 ≡ 2 ^ w - 1
+ones_none zero e h = refl
+ones_none (suc w) e h = absurd (by (ltb 64 (suc w)) refl)
+  where
+    by : (b : Bool) → ltb 64 (suc w) ≡ b → ⊥
+    by true l = let g : 64 < suc w = ltb-true 64 (suc w) l in omega arith
+    by false l = false≢true (sym (or_none (eqb (suc w) 0) (ltb 64 (suc w)) (eqb-suc-zero w) l) ∙ e)
+
+pub ones_range : (w : ℕ) → (eqb w 0 || ltb 64 w) ≡ false → (1 ≤ w) × (w ≤ 64)
+ones_range w e =
+    let p = or_false (eqb w 0) (ltb 64 w) e in
+    let n : w ≡ 0 → ⊥ = eqb-false w 0 p.0 in
+    let m : w ≤ 64 = ltb-false 64 w p.1 in
+    (some w n, m)
+  where
+    some : (x : ℕ) → (x ≡ 0 → ⊥) → 1 ≤ x
+    some x n = omega arith

@@ -7,7 +7,7 @@ use Rattle.spelling.specs.declared.forms.Form.TheVariants as form
 use Rattle.lines.specs.Words.{Word, sort, input, zeros, one, ones, const, constd, consth, inv, conj, disj, xor, add, sub, mul, sll, srl, sra, eq, neq, ult, slt, ite, concat, slice, uext, sext, constraint, other, shape}
 use Rattle.lines.specs.Format.{Constant}
 use Rattle.spelling.specs.Nodes.{fits, own}
-use Rattle.spelling.specs.inner.Spelled.{rule_of, rule_fits, short, form_of, kind_for, or_nodes, sub_nodes, neq_nodes, uext_nodes, spelled_by}
+use Rattle.spelling.specs.inner.Spelled.{rule_of, rule_fits, short, form_of, or_nodes, sub_nodes, neq_nodes, uext_nodes, spelled_by}
 
 -- ---- short numbers
 
@@ -159,8 +159,8 @@ pub record Fields (k : Word) (w b c p q v b' c' p' q' v' : ℕ) : Type 0 where
   pub told : form_of k ≡ form.Constant → v' ≡ told_by k w v
 
 pub own_spelled : (k : Word) (w n a b c p q v b' c' p' q' v' : ℕ) → Fields k w b c p q v b' c' p' q' v'
-    → own k w n a b c p q v ≡ spelled_by (form_of k) (kind_for k) w n a b' c' p' q' v'
-unfolding own form_of kind_for spelled_by or_nodes sub_nodes neq_nodes uext_nodes shape told_by rule_of field_of
+    → own k w n a b c p q v ≡ spelled_by (form_of k) w n a b' c' p' q' v'
+unfolding own form_of spelled_by or_nodes sub_nodes neq_nodes uext_nodes shape told_by rule_of field_of
 own_spelled sort w n a b c p q v b' c' p' q' v' F = refl
 own_spelled input w n a b c p q v b' c' p' q' v' F = refl
 own_spelled zeros w n a b c p q v b' c' p' q' v' F = rw (F.told refl)
@@ -193,6 +193,6 @@ own_spelled other w n a b c p q v b' c' p' q' v' F = refl
 
 -- so that what holds of every form's nodes holds of every keyword's
 pub own_form : (k : Word) (w n a b c p q v : ℕ)
-    → own k w n a b c p q v ≡ spelled_by (form_of k) (kind_for k) w n a (field_of (shape k).refs 1 b) (field_of (shape k).refs 2 c) p q (told_by k w v)
+    → own k w n a b c p q v ≡ spelled_by (form_of k) w n a (field_of (shape k).refs 1 b) (field_of (shape k).refs 2 c) p q (told_by k w v)
 own_form k w n a b c p q v =
     own_spelled k w n a b c p q v _ _ p q _ (record { b_is = refl; c_is = refl; by_is = λ e. refl; low_is = λ e. refl; told = λ e. refl })

@@ -1,22 +1,20 @@
 -- Laws of the nodes of a line, as code counts and makes them.
-use Rattle.std.specs.Prelude.{◌≡◌, Bool, not, ◌&&◌, ◌||◌, List, [], ◌∷◌, ◌++◌, ℕ, zero, suc, ◌+◌, ◌-◌, ◌≤◌, ◌<◌, eqb, ltb, leb}
+use Rattle.std.specs.Prelude.{◌≡◌, Bool, ◌&&◌, List, [], ◌∷◌, ℕ, ◌+◌, ◌-◌, ◌≤◌, ◌<◌, eqb, ltb}
 use Rattle.std.proofs.Math.Path.{refl, sym}
-use Rattle.std.proofs.Common.{ap, ◌∙◌, arith, length-append, eq-eqb, ne_eqb, eqb-true, le-leb}
+use Rattle.std.proofs.Common.{ap, ◌∙◌, arith, length-append, le-leb}
 use Rattle.std.proofs.Math.Bool.{true, false, cond}
 use Rattle.std.proofs.Math.ListN.{length, get_or, get_or-append}
 use Rattle.std.proofs.Math.Seq.{get_or-append-add}
-use Rattle.std.proofs.lemmas.Bool.{eqb-false, lt-leb}
+use Rattle.std.proofs.lemmas.Bool.{lt-leb}
 use Rattle.problem.specs.declared.layout.Node.{Node}
-use Rattle.spelling.specs.declared.forms.Rule.{Rule}
 use Rattle.spelling.specs.declared.forms.Rule.TheVariants.{Slice}
 use Rattle.spelling.specs.declared.forms.Form.{Form}
 use Rattle.spelling.specs.declared.forms.Form.TheVariants as form
-use Rattle.spelling.specs.declared.line.Operand.{Operand}
 use Rattle.spelling.specs.declared.line.Operands.{Operands}
 use Rattle.spelling.specs.declared.line.Line.{Line}
-use Rattle.lines.specs.Words.{Word, word_of}
-use Rattle.spelling.specs.Nodes.{operator, constant_node, variable_node, invert, unless_zero, nots}
-use Rattle.spelling.specs.inner.Spelled.{rule_fits, or_nodes, sub_nodes, neq_nodes, uext_nodes, spelled_by, own_count, one_if, placed_at, three_of, nots_of, count_read, form_of, kind_for, new_read}
+use Rattle.lines.specs.Words.{word_of}
+use Rattle.spelling.specs.Nodes.{operator, constant_node, invert, nots}
+use Rattle.spelling.specs.inner.Spelled.{rule_fits, or_nodes, sub_nodes, neq_nodes, uext_nodes, spelled_by, own_count, one_if, placed_at, three_of, nots_of, count_read, form_of, new_read}
 
 -- ---- counts
 
@@ -34,7 +32,7 @@ unfolding own_count
 own_few form.Nothing p = omega arith
 own_few form.Variable p = omega arith
 own_few form.Constant p = omega arith
-own_few form.Plain p = omega arith
+own_few (form.Plain kind) p = omega arith
 own_few form.Slice p = omega arith
 own_few form.Or p = omega arith
 own_few form.Sub p = omega arith
@@ -54,22 +52,22 @@ pub count_few : (x : Line) → count_read x ≤ 7
 unfolding count_read
 count_few x = omega (arith, nots_few x.ops, own_few (form_of (word_of x.word)) x.first)
 
-pub own_length : (f : Form) (kind w n a b c p q v : ℕ) → length (spelled_by f kind w n a b c p q v) ≡ own_count f p
+pub own_length : (f : Form) (w n a b c p q v : ℕ) → length (spelled_by f w n a b c p q v) ≡ own_count f p
 unfolding spelled_by own_count or_nodes sub_nodes neq_nodes uext_nodes
-own_length form.Nothing kind w n a b c p q v = refl
-own_length form.Variable kind w n a b c p q v = refl
-own_length form.Constant kind w n a b c p q v = refl
-own_length form.Plain kind w n a b c p q v = refl
-own_length form.Slice kind w n a b c p q v = refl
-own_length form.Or kind w n a b c p q v = refl
-own_length form.Sub kind w n a b c p q v = refl
-own_length form.Neq kind w n a b c p q v = refl
-own_length form.Uext kind w n a b c p q v = by (eqb p 0)
+own_length form.Nothing w n a b c p q v = refl
+own_length form.Variable w n a b c p q v = refl
+own_length form.Constant w n a b c p q v = refl
+own_length (form.Plain kind) w n a b c p q v = refl
+own_length form.Slice w n a b c p q v = refl
+own_length form.Or w n a b c p q v = refl
+own_length form.Sub w n a b c p q v = refl
+own_length form.Neq w n a b c p q v = refl
+own_length form.Uext w n a b c p q v = by (eqb p 0)
   where
     by : (t : Bool) → length (cond t [] (constant_node p 0 ∷ operator 12 w n a 0 ∷ [])) ≡ cond t 0 2
     by true = refl
     by false = refl
-own_length form.Sext kind w n a b c p q v = by (eqb p 0)
+own_length form.Sext w n a b c p q v = by (eqb p 0)
   where
     by : (t : Bool) → length (cond t [] (operator 16 w a 0 0 ∷ [])) ≡ cond t 0 1
     by true = refl
@@ -131,9 +129,9 @@ module _ (o : Operands) where
 
 -- ---- node j of a form
 
-pub form_one : (f : Form) (kind w n a b c p q v j : ℕ) (ns : List Node) (m : Node) → spelled_by f kind w n a b c p q v ≡ ns → own_count f p ≡ 1
-    → j < own_count f p → m ≡ get_or ns 0 (invert 0 0) → m ≡ get_or (spelled_by f kind w n a b c p q v) j (invert 0 0)
-form_one f kind w n a b c p q v j ns m e k h q' = let z : j ≡ 0 = omega arith in rw (e, z) q'
+pub form_one : (f : Form) (w n a b c p q v j : ℕ) (ns : List Node) (m : Node) → spelled_by f w n a b c p q v ≡ ns → own_count f p ≡ 1
+    → j < own_count f p → m ≡ get_or ns 0 (invert 0 0) → m ≡ get_or (spelled_by f w n a b c p q v) j (invert 0 0)
+form_one f w n a b c p q v j ns m e k h q' = let z : j ≡ 0 = omega arith in rw (e, z) q'
 
 pub or_three : (j w n a b : ℕ) → (j ≡ 0 → ⊥) → (j ≡ 1 → ⊥) → (j ≡ 2 → ⊥) → j < 4 → invert w (n + 2) ≡ get_or (or_nodes w n a b) j (invert 0 0)
 unfolding or_nodes
@@ -156,18 +154,18 @@ some_by : (t : Bool) (j n : ℕ) → j < cond t 0 n → t ≡ false
 some_by true j n h = absurd (omega arith)
 some_by false j n h = refl
 
-pub uext_some : (kind w n a b c p q v j : ℕ) (m : Node) → j < own_count form.Uext p → (j < 2 → m ≡ get_or (uext_nodes w n a p) j (invert 0 0))
-    → m ≡ get_or (spelled_by form.Uext kind w n a b c p q v) j (invert 0 0)
+pub uext_some : (w n a b c p q v j : ℕ) (m : Node) → j < own_count form.Uext p → (j < 2 → m ≡ get_or (uext_nodes w n a p) j (invert 0 0))
+    → m ≡ get_or (spelled_by form.Uext w n a b c p q v) j (invert 0 0)
 unfolding spelled_by own_count
-uext_some kind w n a b c p q v j m h f =
+uext_some w n a b c p q v j m h f =
     let e : eqb p 0 ≡ false = some_by (eqb p 0) j 2 h in
     let l : j < 2 = rw e at h in
     rw e (f l)
 
-pub sext_some : (kind w n a b c p q v j : ℕ) → j < own_count form.Sext p
-    → operator 16 w a 0 0 ≡ get_or (spelled_by form.Sext kind w n a b c p q v) j (invert 0 0)
+pub sext_some : (w n a b c p q v j : ℕ) → j < own_count form.Sext p
+    → operator 16 w a 0 0 ≡ get_or (spelled_by form.Sext w n a b c p q v) j (invert 0 0)
 unfolding spelled_by own_count
-sext_some kind w n a b c p q v j h =
+sext_some w n a b c p q v j h =
     let e : eqb p 0 ≡ false = some_by (eqb p 0) j 1 h in
     let l : j < 1 = rw e at h in
     let z : j ≡ 0 = omega arith in
@@ -182,7 +180,7 @@ module _ (x : Line) (n j : ℕ) where
       let l : j < length (nots (three_of x.ops)) = omega (arith, nots_length x.ops) in
       e ∙ sym (get_or-append (nots (three_of x.ops)) _ (invert 0 0) j l)
 
-  pub new_own : (m : Node) (s t a b c k : ℕ) (f : Form)
+  pub new_own : (m : Node) (s t a b c : ℕ) (f : Form)
       → nots_of x.ops ≤ j
       → s ≡ n + one_if x.ops.a.negative
       → t ≡ s + one_if x.ops.b.negative
@@ -190,13 +188,12 @@ module _ (x : Line) (n j : ℕ) where
       → b ≡ placed_at x.ops.b s
       → c ≡ placed_at x.ops.c t
       → f ≡ form_of (word_of x.word)
-      → k ≡ kind_for (word_of x.word)
-      → m ≡ get_or (spelled_by f k x.width (n + nots_of x.ops) a b c x.first x.second x.literal.value) (j - nots_of x.ops) (invert 0 0)
+      → m ≡ get_or (spelled_by f x.width (n + nots_of x.ops) a b c x.first x.second x.literal.value) (j - nots_of x.ops) (invert 0 0)
       → m ≡ get_or (new_read x n) j (invert 0 0)
   unfolding new_read
-  new_own m s t a b c k f h es et ea eb ec ef ek e =
+  new_own m s t a b c f h es et ea eb ec ef e =
       let z : j ≡ length (nots (three_of x.ops)) + (j - nots_of x.ops) = omega (arith, nots_length x.ops) in
-      e ∙ rw (ea, eb, ec, et, es, ef, ek) (sym (ap (λ (i : ℕ). get_or (new_read x n) i (invert 0 0)) z ∙ get_or-append-add (nots (three_of x.ops)) _ (j - nots_of x.ops) (invert 0 0)))
+      e ∙ rw (ea, eb, ec, et, es, ef) (sym (ap (λ (i : ℕ). get_or (new_read x n) i (invert 0 0)) z ∙ get_or-append-add (nots (three_of x.ops)) _ (j - nots_of x.ops) (invert 0 0)))
 
 -- a node past the nots is one of the line's own
 pub own_below : (x : Line) (j before : ℕ) (f : Form) → before ≡ nots_of x.ops → f ≡ form_of (word_of x.word) → before ≤ j → j < count_read x

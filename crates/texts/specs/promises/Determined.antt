@@ -1,8 +1,7 @@
 -- The contract of each public function determines its result: any two results that it allows are equal.
-use Rattle.std.specs.Prelude.{◌≡◌, Bool, List, ℕ, ◌+◌, drop, get_or}
+use Rattle.std.specs.Prelude.{◌≡◌, Bool, List, ℕ, ◌+◌, drop, get_or, Option}
 use Rattle.std.proofs.Common.{sym, ◌∙◌}
 use Rattle.texts.specs.declared.runs.Class.{Class}
-use Rattle.texts.specs.declared.numbers.Number.{Number}
 use Rattle.texts.specs.Runs.{is_white, is_in, length_of_run, equal}
 use Rattle.texts.specs.Numbers.{digits_in, value_in, numbered}
 
@@ -32,5 +31,5 @@ same_determined t u r s = one
 pub digits_determined : (t : List ℕ) (base : ℕ) (r s : Bool) → r ≡ digits_in base t → s ≡ digits_in base t → r ≡ s
 digits_determined t base r s = one
 
-pub value_in_determined : (t : List ℕ) (base : ℕ) (r s : Number) → r ≡ numbered (value_in base t) → s ≡ numbered (value_in base t) → r ≡ s
+pub value_in_determined : (t : List ℕ) (base : ℕ) (r s : Option ℕ) → r ≡ numbered (value_in base t) → s ≡ numbered (value_in base t) → r ≡ s
 value_in_determined t base r s = one

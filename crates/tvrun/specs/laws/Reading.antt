@@ -1,8 +1,5 @@
--- Laws of how many bytes of a file were read.
-use Rattle.std.specs.Prelude.{◌≡◌, ℕ, ◌≤◌}
-use Rattle.tvrun.specs.declared.Reading.{Reading}
-use Rattle.tvrun.specs.declared.Reading.TheVariants.{Bytes}
-use Rattle.tvrun.specs.Reading.{AtMost}
+-- The law of a reading: what was read has room.
+use Rattle.std.specs.Prelude.{◌≡◌, ℕ, ◌≤◌, Result, Ok, IfOk}
 
-pub bytes_most : (room : ℕ) {n : ℕ} {r : Reading} → r ≡ Bytes n → AtMost room r → n ≤ room
+pub bytes_most : {E : Type 0} (room : ℕ) {n : ℕ} {r : Result ℕ E} → r ≡ Ok n → IfOk r (λ k. k ≤ room) → n ≤ room
 bytes_most room e h = rw e at h

@@ -9,7 +9,6 @@ use Rattle.words.specs.laws.Agree.{agrees_of_within, agrees_lt, within_le, withi
 use Rattle.fixed.specs.declared.Pair.{Pair}
 use Rattle.operators.specs.Table.{shape_of}
 use Rattle.problem.specs.declared.layout.Node.{Node}
-use Rattle.problem.specs.declared.Checked.TheVariants.{Accepted}
 use Rattle.problem.specs.Layout.{node_count, node_at, width_at}
 use Rattle.problem.specs.inner.Facts.{NodeFacts, Facts}
 use Rattle.problem.specs.laws.Facts.{facts_accepted}
@@ -29,6 +28,7 @@ use Rattle.search.specs.promises.Accepted.{Accepts, accepted_start, start_accept
 use Rattle.walumpeh.specs.Offered.{Empty, Offered, plain}
 use Rattle.walumpeh.specs.laws.Rules.{operands_fields, one_operand, rule_of_lem, low_law}
 use Rattle.walumpeh.specs.laws.Built.{Fields, four, four_counts, four_header, four_first, four_second, four_third, four_last, four_small}
+use Rattle.problem.specs.Refusals.{Accepted}
 
 -- ---- what stands at the positions
 

@@ -4,8 +4,7 @@ use Rattle.std.proofs.Math.Path.{refl}
 use Rattle.std.proofs.Common.{ap, ◌∙◌, ⊎_elim, arith}
 use Rattle.std.proofs.Math.Decide.{dec_lt}
 use borrow.Author.Tests.{leb-true, lt-ltb}
-use Rattle.problem.specs.declared.Checked.{Checked}
-use Rattle.problem.specs.Refusals.{refusal, first_of, ◌then◌, number_of, checked}
+use Rattle.problem.specs.Refusals.{Checked, refusal, first_of, ◌then◌, number_of, checked}
 use Rattle.problem.specs.laws.First.{then_each, then_refused, then_accepted, first_of_each}
 use Rattle.problem.specs.promises.Numbers.{numbered}
 use Rattle.search.specs.Answers.{answer_words}
@@ -37,19 +36,36 @@ module _ (s : List ℕ) (starts : ℕ) (values tape lengths budgets answers : Li
   few : ℕ → Bool
   few k = leb k 20
 
+  few_lists : Few (lists_fault starts lengths budgets)
+  unfolding lists_fault few
+  few_lists = first_of_each Few 0 few _ refl (λ k t. leb-true k 20 t) (omega arith)
+
+  few_tape : Few (tape_fault tape lengths)
+  unfolding tape_fault few
+  few_tape = first_of_each Few 0 few _ refl (λ k t. leb-true k 20 t) (omega arith)
+
+  few_room : Few (room_fault s starts values)
+  unfolding room_fault few
+  few_room = first_of_each Few 0 few _ refl (λ k t. leb-true k 20 t) (omega arith)
+
+  -- what follows 255
+  abbrev rest : Checked
+  rest = checked s then lists_fault starts lengths budgets then tape_fault tape lengths then room_fault s starts values
+
+  few_rest : Few rest
+  few_rest =
+      then_each Few (checked s) (lists_fault starts lengths budgets then tape_fault tape lengths then room_fault s starts values) (few_checked s)
+      (then_each Few (lists_fault starts lengths budgets) (tape_fault tape lengths then room_fault s starts values) few_lists
+      (then_each Few (tape_fault tape lengths) (room_fault s starts values) few_tape few_room))
+
   few_numbers : starts * answer_words ≤ length answers → number_of (batch_refusals s starts values tape lengths budgets answers) ≤ 20
-  unfolding batch_refusals lists_fault tape_fault room_fault few
-  few_numbers h =
-      rw (then_accepted (answers_fault starts answers) _ ((answers_right s starts values tape lengths budgets answers).1 h))
-      (then_each Few _ _ (few_checked s)
-      (then_each Few _ _ (first_of_each Few 0 few _ refl (λ k t. leb-true k 20 t) (omega arith))
-      (then_each Few _ _ (first_of_each Few 0 few _ refl (λ k t. leb-true k 20 t) (omega arith))
-      (first_of_each Few 0 few _ refl (λ k t. leb-true k 20 t) (omega arith)))))
+  unfolding batch_refusals
+  few_numbers h = rw (then_accepted (answers_fault starts answers) rest ((answers_right s starts values tape lengths budgets answers).1 h)) few_rest
 
   short_number : length answers < starts * answer_words → batch_refusals s starts values tape lengths budgets answers ≡ refusal too_short 0
   unfolding batch_refusals answers_fault first_of
   short_number h =
-      then_refused _ _ (record { number = too_short; place = 0 }) (rw (lt-ltb (length answers) (starts * answer_words) h))
+      then_refused (answers_fault starts answers) rest (record { number = too_short; place = 0 }) (rw (lt-ltb (length answers) (starts * answer_words) h))
 
 pub batch_short_told :
     {s : List ℕ} {starts : ℕ} {values tape lengths budgets answers vs qs : List ℕ} {r : ℕ}

@@ -1,9 +1,8 @@
 -- The contract of `wal_btor2` determines its number and every lent place; 255 is told exactly where `out` is too short; and of a text of fewer
 -- than 2^56 bytes every line is told as it is.
-use Rattle.std.specs.Prelude.{◌≡◌, refl, ◌↔◌, List, ℕ, ◌-◌, ◌^◌, ◌≤◌, ◌<◌, min, length, set}
+use Rattle.std.specs.Prelude.{◌≡◌, refl, ◌↔◌, List, ℕ, ◌-◌, ◌^◌, ◌<◌, min, length, set}
 use Rattle.std.proofs.Common.{ap, arith}
-use Rattle.btor2.specs.declared.Converted.{Converted}
-use Rattle.btor2.specs.Answer.{Converts, number_of, line_of, length_of}
+use Rattle.btor2.specs.Answer.{Converted, Converts, number_of, line_of, length_of}
 use Rattle.btor2.specs.promises.Determined.{convert_determined}
 use Rattle.btor2.specs.promises.Numbers.{convert_numbered}
 use Rattle.search.specs.Answers.{refusal_code}

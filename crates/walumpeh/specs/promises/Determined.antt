@@ -1,8 +1,6 @@
 -- The contract of each call determines its number and every lent place: any two that it allows are equal.
-use Rattle.std.specs.Prelude.{◌≡◌, refl, List, ℕ, ◌%◌, ◌^◌, set}
+use Rattle.std.specs.Prelude.{◌≡◌, refl, List, ℕ, ◌%◌, ◌^◌, set, Some, None, Option}
 use Rattle.std.proofs.Common.{sym, ap, ◌∙◌, arith}
-use Rattle.words.specs.declared.found.Found.{Found}
-use Rattle.words.specs.declared.found.Found.TheVariants.{At, Nothing}
 use Rattle.words.specs.Pick.{Picked}
 use Rattle.words.specs.laws.Pick.{picked_unique}
 use Rattle.problem.specs.Refusals.{checked}
@@ -26,14 +24,14 @@ wal_essential_determined S i t (not_essential o e) (essential o' e') = absurd (e
 wal_essential_determined S i t (not_essential o e) (not_essential o' e') = refl
 
 -- a found value and none, of one set
-never : {v : ℕ} {A : Type 0} → At v ≡ Nothing → A
+never : {v : ℕ} {A : Type 0} → Some v ≡ None → A
 never e = absurd (let z : ◌≡◌ {A = ℕ} 0 1 = cc in omega arith)
 
 module _ (S : Spot) (i t p which : ℕ) (out : List ℕ) where
-  one_pick : {f g : Found} → Picked (SetOf which S t i) (p % 2 ^ at S.widths i) f → Picked (SetOf which S t i) (p % 2 ^ at S.widths i) g → f ≡ g
+  one_pick : {f g : Option ℕ} → Picked (SetOf which S t i) (p % 2 ^ at S.widths i) f → Picked (SetOf which S t i) (p % 2 ^ at S.widths i) g → f ≡ g
   one_pick {f} {g} a b = picked_unique (SetOf which S t i) (p % 2 ^ at S.widths i) f g a b
 
-  same_value : {v u : ℕ} → At v ≡ At u → v ≡ u
+  same_value : {v u : ℕ} → Some v ≡ Some u → v ≡ u
   same_value e = cc
 
   pub wal_pick_determined : {o o' : List ℕ} {r s : ℕ} → PickCode S i t p which out o r → PickCode S i t p which out o' s → (o ≡ o') × (r ≡ s)
@@ -48,8 +46,8 @@ module _ (S : Spot) (i t p which : ℕ) (out : List ℕ) where
   wal_pick_determined (nothing h o d) (no_place n') = absurd (omega arith)
   wal_pick_determined (nothing h o d) (refused h' x') = absurd (x' o)
   wal_pick_determined (nothing h o d) (nothing h' o' d') = (refl, refl)
-  wal_pick_determined (nothing h o d) (found {v} h' o' d') = never {v = v} (one_pick {f = At v} {g = Nothing} d' d)
+  wal_pick_determined (nothing h o d) (found {v} h' o' d') = never {v = v} (one_pick {f = Some v} {g = None} d' d)
   wal_pick_determined (found h o d) (no_place n') = absurd (omega arith)
   wal_pick_determined (found h o d) (refused h' x') = absurd (x' o)
-  wal_pick_determined (found {v} h o d) (nothing h' o' d') = never {v = v} (one_pick {f = At v} {g = Nothing} d d')
-  wal_pick_determined (found {v} h o d) (found {v = u} h' o' d') = (ap (set out 0) (same_value {v = v} {u = u} (one_pick {f = At v} {g = At u} d d')), refl)
+  wal_pick_determined (found {v} h o d) (nothing h' o' d') = never {v = v} (one_pick {f = Some v} {g = None} d d')
+  wal_pick_determined (found {v} h o d) (found {v = u} h' o' d') = (ap (set out 0) (same_value {v = v} {u = u} (one_pick {f = Some v} {g = Some u} d d')), refl)

@@ -1,6 +1,5 @@
 -- That the picks are refused exactly if no accepted problem has such a node: `Offered` is what accepted problems have.
 use Rattle.std.specs.Prelude.{◌≡◌, ◌↔◌, List, ℕ, ◌^◌, ◌≤◌, ◌<◌, get_or}
-use Rattle.problem.specs.declared.Checked.TheVariants.{Accepted}
 use Rattle.problem.specs.Layout.{node_count, node_at}
 use Rattle.picking.specs.declared.spot.Spot.{Spot}
 use Rattle.picking.specs.Spot.{positions}
@@ -8,6 +7,7 @@ use Rattle.nodes.specs.Problem.{problem, evaluate, spot}
 use Rattle.search.specs.Call.{refusals}
 use Rattle.walumpeh.specs.Offered.{Offered, plain}
 use Rattle.walumpeh.specs.laws.Witness as witness
+use Rattle.problem.specs.Refusals.{Accepted}
 
 -- an accepted problem, an accepted start and an operator's node, which is S under the values that the start gives; one of its
 -- positions, and a target of its width

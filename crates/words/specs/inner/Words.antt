@@ -1,7 +1,5 @@
 -- What the functions on words answer, as numbers. All at any width.
-use Rattle.std.specs.Prelude.{◌≡◌, ℕ, suc, ◌+◌, ◌-◌, ◌*◌, ◌/◌, ◌%◌, ◌^◌, ◌<◌, ◌≤◌, min, bit_and}
-use Rattle.words.specs.declared.found.Found.{Found}
-use Rattle.words.specs.declared.found.Found.TheVariants.{At, Nothing}
+use Rattle.std.specs.Prelude.{◌≡◌, ℕ, suc, ◌+◌, ◌-◌, ◌*◌, ◌/◌, ◌%◌, ◌^◌, ◌<◌, ◌≤◌, min, bit_and, Option, None, Some}
 
 -- the bits of a that are not in b
 unfoldable pub less : ℕ → ℕ → ℕ
@@ -13,10 +11,10 @@ over n a c = a / 2 ^ n * 2 ^ n + c
 
 -- ---- the lesser of two answers
 
-abbrev pub lesser : Found → Found → Found
-lesser Nothing b = b
-lesser (At a) Nothing = At a
-lesser (At a) (At b) = At (min a b)
+abbrev pub lesser : Option ℕ → Option ℕ → Option ℕ
+lesser None b = b
+lesser (Some a) None = Some a
+lesser (Some a) (Some b) = Some (min a b)
 
 -- ---- inverses
 

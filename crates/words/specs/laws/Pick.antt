@@ -1,8 +1,6 @@
 -- Laws of searches and picks in any set: at most one answer, picks made of searches, and sets with the same members.
-use Rattle.std.specs.Prelude.{◌≡◌, ℕ, ◌<◌, ◌≤◌, max, refl}
+use Rattle.std.specs.Prelude.{unwrap_or, ◌≡◌, ℕ, ◌<◌, ◌≤◌, max, refl, Option, Some, None}
 use Rattle.std.proofs.Common.{ap, zero-le, arith, le_antisymm, le_refl, le_trans, not-le_of_lt}
-use Rattle.words.specs.declared.found.Found.{Found}
-use Rattle.words.specs.declared.found.Found.TheVariants.{At, Nothing}
 use Rattle.words.specs.Pick.{Least, NoneFrom, FirstFrom, Pick, above, around, Picked, Between}
 
 -- ---- at most one answer
@@ -10,11 +8,11 @@ use Rattle.words.specs.Pick.{Least, NoneFrom, FirstFrom, Pick, above, around, Pi
 pub least_unique : {A : ℕ → Type 0} {p v u : ℕ} → Least A p v → Least A p u → v ≡ u
 least_unique {A} {p} {v} {u} a b = le_antisymm (a.least u b.member b.from) (b.least v a.member a.from)
 
-pub first_unique : (A : ℕ → Type 0) (p : ℕ) (r s : Found) → FirstFrom A p r → FirstFrom A p s → r ≡ s
-first_unique A p (At v) (At u) a b = ap At (least_unique a b)
-first_unique A p (At v) Nothing a b = absurd (b v a.member a.from)
-first_unique A p Nothing (At u) a b = absurd (a u b.member b.from)
-first_unique A p Nothing Nothing a b = refl
+pub first_unique : (A : ℕ → Type 0) (p : ℕ) (r s : Option ℕ) → FirstFrom A p r → FirstFrom A p s → r ≡ s
+first_unique A p (Some v) (Some u) a b = ap Some (least_unique a b)
+first_unique A p (Some v) None a b = absurd (b v a.member a.from)
+first_unique A p None (Some u) a b = absurd (a u b.member b.from)
+first_unique A p None None a b = refl
 
 pub pick_unique : {A : ℕ → Type 0} {p v u : ℕ} → Pick A p v → Pick A p u → v ≡ u
 pick_unique (above a) (above b) = least_unique a b
@@ -26,11 +24,11 @@ pub pick_member : {A : ℕ → Type 0} {p v : ℕ} → Pick A p v → A v
 pick_member (above a) = a.member
 pick_member (around n a) = a.member
 
-pub picked_unique : (A : ℕ → Type 0) (p : ℕ) (r s : Found) → Picked A p r → Picked A p s → r ≡ s
-picked_unique A p (At v) (At u) a b = ap At (pick_unique a b)
-picked_unique A p (At v) Nothing a b = absurd (b v (pick_member a))
-picked_unique A p Nothing (At u) a b = absurd (a u (pick_member b))
-picked_unique A p Nothing Nothing a b = refl
+pub picked_unique : (A : ℕ → Type 0) (p : ℕ) (r s : Option ℕ) → Picked A p r → Picked A p s → r ≡ s
+picked_unique A p (Some v) (Some u) a b = ap Some (pick_unique a b)
+picked_unique A p (Some v) None a b = absurd (b v (pick_member a))
+picked_unique A p None (Some u) a b = absurd (a u (pick_member b))
+picked_unique A p None None a b = refl
 
 -- ---- picks from what is at hand
 
@@ -38,10 +36,15 @@ picked_unique A p Nothing Nothing a b = refl
 pub pick_self : {A : ℕ → Type 0} {p : ℕ} → A p → Pick A p p
 pick_self {A} {p} m = above (record { member = m; from = le_refl p; least = λ u _ h. h })
 
+-- where a search from p on finds nothing, the least of all is the pick
+pub pick_or : {A : ℕ → Type 0} {p : ℕ} (r : Option ℕ) (v : ℕ) → FirstFrom A p r → Least A 0 v → Pick A p (unwrap_or r v)
+pick_or (Some u) v a l = above a
+pick_or None v n l = around n l
+
 -- two searches make a pick: where the first, from p on, found nothing, the second, from 0 on, answers
-pub picked_around : (A : ℕ → Type 0) (p : ℕ) (r : Found) → NoneFrom A p → FirstFrom A 0 r → Picked A p r
-picked_around A p (At v) n a = around n a
-picked_around A p Nothing n a = λ u m. a u m zero-le
+pub picked_around : (A : ℕ → Type 0) (p : ℕ) (r : Option ℕ) → NoneFrom A p → FirstFrom A 0 r → Picked A p r
+picked_around A p (Some v) n a = around n a
+picked_around A p None n a = λ u m. a u m zero-le
 
 -- ---- sets with the same members have the same picks
 
@@ -49,17 +52,17 @@ module _ (A B : ℕ → Type 0) (to : (u : ℕ) → A u → B u) (back : (u : �
   pub least_same : (p v : ℕ) → Least A p v → Least B p v
   least_same p v a = record { member = to v a.member; from = a.from; least = λ u m h. a.least u (back u m) h }
 
-  pub first_same : (p : ℕ) (r : Found) → FirstFrom A p r → FirstFrom B p r
-  first_same p (At v) a = least_same p v a
-  first_same p Nothing a = λ u m h. a u (back u m) h
+  pub first_same : (p : ℕ) (r : Option ℕ) → FirstFrom A p r → FirstFrom B p r
+  first_same p (Some v) a = least_same p v a
+  first_same p None a = λ u m h. a u (back u m) h
 
   pub pick_same : (p v : ℕ) → Pick A p v → Pick B p v
   pick_same p v (above a) = above (least_same p v a)
   pick_same p v (around n a) = around (λ u m h. n u (back u m) h) (least_same 0 v a)
 
-  pub picked_same : (p : ℕ) (r : Found) → Picked A p r → Picked B p r
-  picked_same p (At v) a = pick_same p v a
-  picked_same p Nothing a = λ u m. a u (back u m)
+  pub picked_same : (p : ℕ) (r : Option ℕ) → Picked A p r → Picked B p r
+  picked_same p (Some v) a = pick_same p v a
+  picked_same p None a = λ u m. a u (back u m)
 
 -- ---- the members of an interval: from the greater of its start and the proposal on, and up to its end
 

@@ -1,7 +1,6 @@
 -- The contract of each public function determines its result: any two results that it allows are equal.
-use Rattle.std.specs.Prelude.{◌≡◌, ℕ, ◌*◌, ◌%◌, ◌^◌, max, Bool, List}
+use Rattle.std.specs.Prelude.{◌≡◌, ℕ, ◌*◌, ◌%◌, ◌^◌, max, Bool, List, Option}
 use Rattle.std.proofs.Common.{sym, ◌∙◌}
-use Rattle.words.specs.declared.found.Found.{Found}
 use Rattle.words.specs.Agree.{Agrees}
 use Rattle.words.specs.inner.Decides.{Decides}
 use Rattle.words.specs.laws.Decides.{decides_unique}
@@ -37,14 +36,14 @@ pub low_bit_determined : (x r s : ℕ) → Tail 64 x r → Tail 64 x s → r ≡
 low_bit_determined x r s = tail_unique
 
 -- ---- found
-pub lesser_of_determined : (a b r s : Found) → r ≡ lesser a b → s ≡ lesser a b → r ≡ s
+pub lesser_of_determined : (a b r s : Option ℕ) → r ≡ lesser a b → s ≡ lesser a b → r ≡ s
 lesser_of_determined a b r s = equal
 
 -- ---- ternary
 pub agrees_determined : (v lo hi : ℕ) (r s : Bool) → Decides (Agrees lo hi v) r → Decides (Agrees lo hi v) s → r ≡ s
 agrees_determined v lo hi = decides_unique (Agrees lo hi v)
 
-pub first_agreeing_determined : (lo hi p : ℕ) (r s : Found) → FirstFrom (Agrees lo hi) p r → FirstFrom (Agrees lo hi) p s → r ≡ s
+pub first_agreeing_determined : (lo hi p : ℕ) (r s : Option ℕ) → FirstFrom (Agrees lo hi) p r → FirstFrom (Agrees lo hi) p s → r ≡ s
 first_agreeing_determined lo hi = first_unique (Agrees lo hi)
 
 pub pick_agreeing_determined : (lo hi p r s : ℕ) → Pick (Agrees lo hi) p r → Pick (Agrees lo hi) p s → r ≡ s
@@ -54,10 +53,10 @@ pick_agreeing_determined lo hi p r s = pick_unique
 pub later_determined : (a b r s : ℕ) → r ≡ max a b → s ≡ max a b → r ≡ s
 later_determined a b r s = equal
 
-pub first_between_determined : (lo hi least most p : ℕ) (r s : Found) → FirstFrom (Between (Agrees lo hi) least most) p r → FirstFrom (Between (Agrees lo hi) least most) p s → r ≡ s
+pub first_between_determined : (lo hi least most p : ℕ) (r s : Option ℕ) → FirstFrom (Between (Agrees lo hi) least most) p r → FirstFrom (Between (Agrees lo hi) least most) p s → r ≡ s
 first_between_determined lo hi least most = first_unique (Between (Agrees lo hi) least most)
 
-pub pick_between_determined : (lo hi least most p : ℕ) (r s : Found) → Picked (Between (Agrees lo hi) least most) p r → Picked (Between (Agrees lo hi) least most) p s → r ≡ s
+pub pick_between_determined : (lo hi least most p : ℕ) (r s : Option ℕ) → Picked (Between (Agrees lo hi) least most) p r → Picked (Between (Agrees lo hi) least most) p s → r ≡ s
 pick_between_determined lo hi least most = picked_unique (Between (Agrees lo hi) least most)
 
 -- ---- marks

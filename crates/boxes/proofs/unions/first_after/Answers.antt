@@ -1,7 +1,8 @@
 -- Nothing is above the greatest word.
-use native.Mathlib.Omega.{arith}
-use Rattle.words.specs.laws.Agree.{within_hi, within_le}
+use Rattle.std.proofs.Common.{rules, lt_of_le_of_lt}
+use Rattle.words.specs.laws.Agree.{agrees_lt}
 use Rattle.boxes.proofs.unions.first_after.Goals as goal
 
-pub returns-then-v-eq18446744073709551615 : goal.returns-then-v-eq18446744073709551615
-returns-then-v-eq18446744073709551615 c = λ u g h. let e = c.if-v-eq18446744073709551615.true in omega (arith, within_le (within_hi g), c.ranges.hi.fits)
+pub returns-in_err-next : goal.returns-in_err-next
+returns-in_err-next c =
+    rw c.from_residual.ensures (λ u g h. c.in_err-next.ensures (lt_of_le_of_lt h (agrees_lt 64 (search rules) g)))

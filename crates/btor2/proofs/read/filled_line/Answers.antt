@@ -4,23 +4,11 @@ use Rattle.lines.specs.laws.Format.{numbers_few}
 use Rattle.btor2.specs.laws.ReadOf.{filled_told}
 use Rattle.btor2.proofs.read.filled_line.Goals as goal
 
-pub token_at-requires : goal.token_at-requires
-token_at-requires c = (c.requires.0, omega arith)
-
-pub overflow_add-middle : goal.overflow_add-middle
-overflow_add-middle c = omega arith
-
-pub token_at-requires-2 : goal.token_at-requires-2
-token_at-requires-2 c = (c.requires.0, omega arith)
-
 pub overflow_add-last : goal.overflow_add-last
 overflow_add-last c = omega (arith, numbers_few c.args.word _ c.numbers_of.ensures)
 
 pub token_at-requires-3 : goal.token_at-requires-3
-token_at-requires-3 c = (c.requires.0, omega (arith, numbers_few c.args.word _ c.numbers_of.ensures))
-
-pub token_at-requires-4 : goal.token_at-requires-4
-token_at-requires-4 c = (c.requires.0, omega arith)
+token_at-requires-3 c = omega (arith, numbers_few c.args.word _ c.numbers_of.ensures)
 
 pub returns : goal.returns
 returns c = filled_told _ _ _ _ _ _ _ _ _ _ _ _ _ _ c.token_at.ensures c.short_of-first.ensures c.token_at-2.ensures c.short_of-second.ensures c.numbers_of.ensures c.token_at-3.ensures c.literal_of-literal.ensures c.token_at-4.ensures c.small_of-id.ensures

@@ -1,16 +1,13 @@
 -- `evaluation::pass::pass` meets its contract.
-use Rattle.std.proofs.Common.{refl, ◌∙◌, ◌-◌, arith}
-use Rattle.evaluation.specs.laws.Passing.{passed_few, passed_long, going_start, going_marks, going_few, going_room, going_evaluable, going_more, going_end, asked_most}
+use Rattle.std.proofs.Common.{refl, ◌∙◌, arith}
+use Rattle.evaluation.specs.laws.Passing.{passed_few, passed_long, going_start, going_few, going_evaluable, going_more, going_end, asked_most}
 use Rattle.evaluation.proofs.pass.pass.Goals as goal
 
-pub bounds-marks-v : goal.bounds-marks-v
-bounds-marks-v c = let p = c.requires in going_marks p.0 p.1
-
 pub loop-i-init : goal.loop-i-init
-loop-i-init c = let p = c.requires in (p.0, refl, going_start p.0 p.1)
+loop-i-init c = (c.requires.asked, refl, rw c.from.ensures (going_start c.requires.asked c.requires.clear))
 
-pub pass_node-count-requires : goal.pass_node-count-requires
-pass_node-count-requires c = let o = c.loop-i.invariant in (going_evaluable o.2 (omega (arith, asked_most o.0)), going_room o.2)
+pub pass_node-count-requires-clause-evaluable : goal.pass_node-count-requires-clause-evaluable
+pass_node-count-requires-clause-evaluable c = let o = c.loop-i.invariant in going_evaluable o.2 (omega (arith, asked_most o.0))
 
 pub overflow_add-count : goal.overflow_add-count
 overflow_add-count c = omega (arith, going_few c.loop-i.invariant.2, passed_few c.pass_node-count.ensures)

@@ -1,10 +1,7 @@
-use Rattle.std.proofs.Common.{◌≤◌, ◌-◌}
-use Rattle.files.specs.Laid.{Laid}
+-- The lines of the nodes below i are put.
 use Rattle.files.specs.Text.{lines_below}
+use Rattle.files.specs.inner.Told.{Puts}
 use Rattle.files.proofs.lines.put_nodes.Given as goal
 
 abbrev pub invariant-loop-i : goal.invariant-loop-i
-invariant-loop-i l = (l.i ≤ l.count) × Laid (lines_below l.problem l.values l.i) l.at l.initial.out l.out l.next
-
-abbrev pub decreases-loop-i : goal.decreases-loop-i
-decreases-loop-i l = l.count - l.i
+invariant-loop-i l = Puts (lines_below l.problem l.values l.i) l.initial.text l.text

@@ -1,11 +1,8 @@
 -- The line's parts in their order.
 use Rattle.files.specs.Text.{ascii, labelled, refused_line}
-use Rattle.files.specs.laws.Laid.{laid_more}
+use Rattle.files.proofs.Turns.{puts_more}
 use Rattle.files.proofs.lines.put_refusal.Goals as goal
 
 pub returns : goal.returns
 unfolding refused_line labelled ascii
-returns c =
-    let number = c.put_labelled-next.ensures in
-    let place = c.put_labelled-next-2.ensures in
-    laid_more (laid_more number place) c.put_bytes.ensures
+returns c = puts_more (puts_more (rw c.from.ensures at c.put_labelled.ensures) (rw c.from-2.ensures at c.put_labelled-2.ensures)) c.put.ensures

@@ -1,14 +1,11 @@
 -- The line's parts in their order.
 use Rattle.files.specs.Text.{ascii, labelled, verdict_line}
-use Rattle.files.specs.laws.Laid.{laid_more}
+use Rattle.files.proofs.Turns.{puts_more}
 use Rattle.files.proofs.lines.put_verdict.Goals as goal
 
 pub returns : goal.returns
 unfolding verdict_line labelled ascii
 returns c =
-    let verdict = c.put_bytes-next.ensures in
-    let name = c.put_name-next.ensures in
-    let moves = c.put_labelled-next.ensures in
-    let steps = c.put_labelled-next-2.ensures in
-    let words = c.put_labelled-next-3.ensures in
-    laid_more (laid_more (laid_more (laid_more (laid_more verdict name) moves) steps) words) c.put_bytes.ensures
+    let named = puts_more c.put.ensures (rw c.name.ensures at c.put-2.ensures) in
+    let counts = puts_more (puts_more (puts_more named c.put_labelled.ensures) c.put_labelled-2.ensures) c.put_labelled-3.ensures in
+    puts_more counts c.put-3.ensures

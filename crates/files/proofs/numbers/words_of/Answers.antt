@@ -1,42 +1,21 @@
--- The loop's invariant: the first i words are laid.
-use Rattle.std.proofs.Common.{◌≡◌, ◌-◌, arith}
+-- One word more, and at the end all that fit.
+use Rattle.std.proofs.Common.{◌≡◌, ◌<◌, ◌/◌, min, length, arith, rules}
 use Rattle.files.specs.Words.{words_below}
 use Rattle.files.specs.laws.Laid.{laid_none, laid_kept}
 use Rattle.files.proofs.Turns.{words_turn, words_end}
 use Rattle.files.proofs.numbers.words_of.Goals as goal
 
-pub word_count-count-requires : goal.word_count-count-requires
-word_count-count-requires c = tt
-
 pub loop-i-init : goal.loop-i-init
 unfolding words_below
-loop-i-init c = (omega arith, laid_none _ _ (omega arith))
-
-pub overflow_mul-i : goal.overflow_mul-i
-overflow_mul-i c = omega (arith, c.word_count-count.ensures)
-
-pub u64_at-requires : goal.u64_at-requires
-u64_at-requires c = omega (arith, c.word_count-count.ensures)
-
-pub offset_bounds-into-i : goal.offset_bounds-into-i
-offset_bounds-into-i c = omega (arith, c.word_count-count.ensures)
-
-pub bounds-into-i : goal.bounds-into-i
-bounds-into-i c = omega (arith, c.word_count-count.ensures, laid_kept c.loop-i.invariant.1)
-
-pub overflow_add-i : goal.overflow_add-i
-overflow_add-i c = omega arith
-
-pub loop-i-smaller : goal.loop-i-smaller
-loop-i-smaller c = omega arith
+loop-i-init c = laid_none _ _ (omega arith)
 
 pub loop-i-preserved : goal.loop-i-preserved
 loop-i-preserved c =
-    let room = laid_kept c.loop-i.invariant.1 in
-    let count = c.word_count-count.ensures in
-    (omega arith, words_turn _ (omega arith) c.u64_at.ensures c.loop-i.invariant.1)
+    let there : c.loop-i.i < length c.loop-i.into = omega (arith, c.loop-i-test.true, c.min-count.ensures, laid_kept c.loop-i.invariant) in
+    words_turn _ there c.u64_at.ensures c.loop-i.invariant
 
 pub returns : goal.returns
 returns c =
-    let e : c.loop-i.i ≡ c.word_count-count.result = omega arith in
-    words_end _ c.word_count-count.ensures (rw e at c.loop-i.invariant.1)
+    let e : c.loop-i.i ≡ c.min-count.result = omega (arith, c.loop-i-test.false) in
+    let all : c.min-count.result ≡ min (length c.args.bytes.now / 8) (length c.args.into.now) = search rules in
+    words_end _ all (rw e at c.loop-i.invariant)

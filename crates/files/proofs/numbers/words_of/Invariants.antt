@@ -1,10 +1,7 @@
-use Rattle.std.proofs.Common.{◌≤◌, ◌-◌}
+-- The first i words are laid.
 use Rattle.files.specs.Laid.{Laid}
 use Rattle.files.specs.Words.{words_below}
 use Rattle.files.proofs.numbers.words_of.Given as goal
 
 abbrev pub invariant-loop-i : goal.invariant-loop-i
-invariant-loop-i l = (l.i ≤ l.count) × Laid (words_below l.bytes l.i) 0 l.initial.into l.into l.i
-
-abbrev pub decreases-loop-i : goal.decreases-loop-i
-decreases-loop-i l = l.count - l.i
+invariant-loop-i l = Laid (words_below l.bytes l.i) 0 l.initial.into l.into l.i

@@ -1,22 +1,16 @@
--- What the rule keeps of the starts passed is kept.
-use Rattle.std.proofs.Common.{◌-◌, arith}
-use Rattle.frames.specs.laws.Gathering.{going_none, start_there, going_more, going_all}
+-- One start more: a model, or passed over.
+use Rattle.words.specs.laws.Decides.{decides_yes, decides_no}
+use Rattle.frames.specs.laws.Gathering.{going_none, going_passed, going_model}
+use Rattle.frames.proofs.gathering.gather_models.Goals.{then-is_model, else-is_model}
 use Rattle.frames.proofs.gathering.gather_models.Goals as goal
 
 pub loop-k-init : goal.loop-k-init
-loop-k-init c = (omega arith, going_none _ _ _ _ _)
-
-pub take_start-tally-requires : goal.take_start-tally-requires
-take_start-tally-requires c = rw c.node_count-n.ensures (start_there c.requires c.loop-k.invariant.1 c.loop-k-test.true)
-
-pub overflow_add-k : goal.overflow_add-k
-overflow_add-k c = omega (arith, c.loop-k-test.true, c.requires.few)
-
-pub loop-k-smaller : goal.loop-k-smaller
-loop-k-smaller c = omega (arith, c.loop-k-test.true)
+loop-k-init c = going_none _ _ _ _ _
 
 pub loop-k-preserved : goal.loop-k-preserved
-loop-k-preserved c = (omega (arith, c.loop-k-test.true), going_more c.requires c.loop-k.invariant.1 c.loop-k-test.true (rw c.node_count-n.ensures at c.take_start-tally.ensures))
-
-pub returns : goal.returns
-returns c = going_all c.loop-k.invariant.1 c.loop-k.invariant.0 c.loop-k-test.false
+loop-k-preserved c =
+    let m = c.args.made in
+    elim c.if-is_model.branch [
+      | then-is_model w ↦ rw (w.kept-is, w.tally-is) (going_model m.few m.values_there c.requires c.loop-k.invariant c.loop-k-test.true (decides_yes _ _ c.is_model.ensures w.if-is_model.true) (rw w.solution.ensures at w.take_model-tally.ensures))
+      | else-is_model w ↦ rw (w.kept-is, w.tally-is) (going_passed m.few m.values_there c.requires c.loop-k.invariant c.loop-k-test.true (decides_no _ _ c.is_model.ensures w.if-is_model.false))
+    ]

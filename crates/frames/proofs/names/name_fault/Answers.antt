@@ -1,13 +1,12 @@
--- One line.
-use Rattle.std.proofs.Common.{arith}
-use Rattle.frames.proofs.Refusing.{name_line}
+-- One line of the table.
+use Rattle.std.proofs.Common.{◌≤◌, ◌∙◌, length, arith}
+use Rattle.problem.specs.Refusals.{first_of}
+use Rattle.frames.specs.Names.{name_fault}
+use Rattle.frames.proofs.Refusing.{named_before_is}
 use Rattle.frames.proofs.names.name_fault.Goals as goal
 
-pub no_variable-wrong-requires : goal.no_variable-wrong-requires
-no_variable-wrong-requires c = c.requires.0
-
-pub named_before-twice-requires : goal.named_before-twice-requires
-named_before-twice-requires c = omega (arith, c.requires.1)
-
 pub returns : goal.returns
-returns c = name_line _ _ _ c.no_variable-wrong.ensures c.named_before-twice.ensures c.line.ensures
+unfolding name_fault first_of
+returns c =
+    let inside : c.args.k ≤ length c.args.names.now = omega (arith, c.requires) in
+    rw (c.no_variable.ensures, c.contains-again.ensures.value ∙ named_before_is _ _ _ inside) at c.refuse_if.ensures

@@ -1,12 +1,9 @@
 use mathlib.Core.Path.{◌≡◌}
-use Prim.Native.Nat.{◌-◌, ◌≤◌, ◌<◌}
+use Prim.Native.Nat.{◌-◌, ◌<◌}
 use lib.ListN.{length, drop}
 use Rattle.lines.specs.inner.Keys.{packed}
 use Rattle.lines.specs.laws.Keys.{bound}
 use Rattle.lines.proofs.table.key_of.Given as goal
 
 abbrev pub invariant-loop-i : goal.invariant-loop-i
-invariant-loop-i l = (l.i ≤ length l.t) × (l.n ≡ packed (drop l.i l.t)) × (l.n < bound (length l.t - l.i))
-
-abbrev pub decreases-loop-i : goal.decreases-loop-i
-decreases-loop-i l = l.i
+invariant-loop-i l = (l.n ≡ packed (drop l.i l.t)) × (l.n < bound (length l.t - l.i))

@@ -4,9 +4,6 @@ use Rattle.texts.specs.Runs.{ascii}
 use Rattle.lines.specs.laws.Keys.{bytes_of, short_number, long_number, word_number}
 use Rattle.lines.proofs.table.number_of.Goals as goal
 
-pub key_of-requires : goal.key_of-requires
-key_of-requires c = c.if-t-le7.true
-
 pub returns-then-t-le7 : goal.returns-then-t-le7
 returns-then-t-le7 c = c.place_of.ensures ∙ rw c.key_of.ensures (short_number _ (bytes_of _ (λ i. (c.type_inv.t i).fits)) c.if-t-le7.true)
 

@@ -1,18 +1,8 @@
 -- The loop's invariant: the line is none of those before line i, which begins at the place.
-use Prim.Native.Nat.{◌-◌}
 use native.Mathlib.Omega.{arith}
 use Rattle.texts.specs.laws.Runs.{run_inside}
-use Rattle.lines.specs.laws.Text.{begins_first, begins_next, find_starts, find_found, find_turn, find_last, find_over, empty_part}
+use Rattle.lines.specs.laws.Text.{begins_next, find_found, find_turn, find_last, find_over, empty_part}
 use Rattle.lines.proofs.told.line_of.Goals as goal
-
-pub loop-i-init : goal.loop-i-init
-loop-i-init c = (omega arith, omega arith, begins_first c.args.text.now, find_starts _ c.args.text.now c.args.passed)
-
-pub slice_bounds-line-count : goal.slice_bounds-line-count
-slice_bounds-line-count c = (run_inside _ _ _ _ c.loop-i.invariant.0 c.run_end-end.ensures).0
-
-pub slice_bounds-line-start : goal.slice_bounds-line-start
-slice_bounds-line-start c = (run_inside _ _ _ _ c.loop-i.invariant.0 c.run_end-end.ensures).0
 
 pub slice_bounds-line-end : goal.slice_bounds-line-end
 slice_bounds-line-end c = (run_inside _ _ _ _ c.loop-i.invariant.0 c.run_end-end.ensures).1
@@ -22,15 +12,6 @@ returns-then-has_id c = find_found _ c.args.text.now _ _ c.loop-i.i _ c.loop-i.i
 
 pub returns-then-end-text : goal.returns-then-end-text
 returns-then-end-text c = empty_part c.args.text.now _ c.run_end-end.result (find_last _ c.args.text.now _ _ c.loop-i.i _ c.loop-i.invariant.2 c.run_end-end.ensures c.loop-i-test.true _ c.has_id.ensures _ c.loop-i.invariant.3 c.if-has_id.false (omega arith))
-
-pub overflow_add-at : goal.overflow_add-at
-overflow_add-at c = omega (arith, run_inside _ _ _ _ c.loop-i.invariant.0 c.run_end-end.ensures)
-
-pub overflow_add-i : goal.overflow_add-i
-overflow_add-i c = omega arith
-
-pub loop-i-smaller : goal.loop-i-smaller
-loop-i-smaller c = omega arith
 
 pub loop-i-preserved : goal.loop-i-preserved
 loop-i-preserved c = (omega (arith, run_inside _ _ _ _ c.loop-i.invariant.0 c.run_end-end.ensures), omega (arith, run_inside _ _ _ _ c.loop-i.invariant.0 c.run_end-end.ensures), begins_next c.args.text.now _ _ c.loop-i.i c.loop-i.invariant.2 c.run_end-end.ensures (omega (arith, run_inside _ _ _ _ c.loop-i.invariant.0 c.run_end-end.ensures)), find_turn _ c.args.text.now _ _ c.loop-i.i c.args.passed c.loop-i.invariant.2 c.run_end-end.ensures c.loop-i-test.true _ c.has_id.ensures _ c.loop-i.invariant.3 c.if-has_id.false (omega (arith, run_inside _ _ _ _ c.loop-i.invariant.0 c.run_end-end.ensures)))

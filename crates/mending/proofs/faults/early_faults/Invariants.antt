@@ -1,11 +1,5 @@
-use Rattle.std.proofs.Common.{◌≡◌, ◌≤◌, ◌-◌}
-use Rattle.problem.specs.declared.Checked.TheVariants.{Accepted}
-use Rattle.problem.specs.Refusals.{first_below}
 use Rattle.mending.specs.Refusals.{early_fault}
 use Rattle.mending.proofs.faults.early_faults.Given as goal
 
-abbrev pub invariant-loop-i : goal.invariant-loop-i
-invariant-loop-i l = (l.i ≤ l.count) × (first_below (early_fault l.problem) l.i ≡ Accepted)
-
-abbrev pub decreases-loop-i : goal.decreases-loop-i
-decreases-loop-i l = l.count - l.i
+abbrev pub ghost-first_refusal : goal.ghost-first_refusal
+ghost-first_refusal a = early_fault a.test.0.now

@@ -19,9 +19,3 @@ link_all-requires c =
       inside = c.requires.inside;
       chained = chained_none _ _ _ (length-replicate {A = ℕ} 1024 0) (length-replicate {A = ℕ} 3072 0) (clear 1024) (clear 3072);
     }
-
-pub place_all-requires : goal.place_all-requires
-place_all-requires c = record { fresh = c.requires; chained = c.link_all.ensures }
-
-pub returns : goal.returns
-returns c = c.place_all.ensures

@@ -1,5 +1,4 @@
-use Rattle.std.proofs.Common.{◌≡◌, ◌≤◌, ◌-◌}
-use Rattle.problem.specs.Layout.{node_count}
+use Rattle.std.proofs.Common.{◌≡◌}
 use Rattle.mending.specs.Order.{numbers}
 use Rattle.mending.specs.inner.Chains.{Exact}
 use Rattle.mending.specs.inner.Laid.{laid}
@@ -7,7 +6,4 @@ use Rattle.mending.proofs.Turns.{ids}
 use Rattle.mending.proofs.order.place_all.Given as goal
 
 abbrev pub invariant-loop-k : goal.invariant-loop-k
-invariant-loop-k l = (l.k ≤ l.n) × (l.n ≡ node_count l.problem) × (l.news ≡ numbers l.problem l.k) × (l.olds ≡ laid l.initial.olds 0 (ids l.problem l.k)) × Exact l.problem l.news l.marks
-
-abbrev pub decreases-loop-k : goal.decreases-loop-k
-decreases-loop-k l = l.n - l.k
+invariant-loop-k l = (l.news ≡ numbers l.readers.problem.now l.k) × (l.olds ≡ laid l.initial.olds 0 (ids l.readers.problem.now l.k)) × Exact l.readers.problem.now l.news l.marks

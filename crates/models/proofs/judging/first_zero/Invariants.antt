@@ -1,10 +1,7 @@
-use Rattle.std.proofs.Common.{◌≡◌, ◌-◌, ◌≤◌}
+use Rattle.std.proofs.Common.{◌≡◌}
 use Rattle.models.specs.declared.Judged.TheVariants.{Yes}
 use Rattle.models.specs.Judgement.{first_said, zero_at}
 use Rattle.models.proofs.judging.first_zero.Given as goal
 
 abbrev pub invariant-loop-j : goal.invariant-loop-j
-invariant-loop-j l = (l.j ≤ l.n) × (first_said (zero_at l.problem l.values) l.j ≡ Yes)
-
-abbrev pub decreases-loop-j : goal.decreases-loop-j
-decreases-loop-j l = l.n - l.j
+invariant-loop-j l = first_said (zero_at l.problem.bytes.now l.values) l.j ≡ Yes

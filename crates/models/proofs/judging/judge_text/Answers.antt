@@ -1,16 +1,21 @@
 -- 31, then 32 to 34, then what is left.
-use Rattle.std.proofs.Common.{sym, ◌∙◌}
-use Rattle.models.specs.laws.Values.{text_wrong, found_right, text_right, given_room, placing, text_judged}
+use Rattle.std.proofs.Common.{refl, rules, ◌≡◌, ◌∙◌, sym, Err}
+use Rattle.nodes.specs.Problem.{zeros}
+use Rattle.models.specs.inner.Judging.{unmarked}
+use Rattle.models.specs.laws.Values.{text_fault, found_nothing, text_passed, text_judged}
 use Rattle.models.proofs.judging.judge_text.Goals as goal
 
 pub read_entries-found-requires : goal.read_entries-found-requires
-read_entries-found-requires c = (c.requires.0, c.requires.1, c.requires.2)
+unfolding zeros unmarked
+read_entries-found-requires c = (refl, refl)
 
-pub returns-then-not-is_yes : goal.returns-then-not-is_yes
-returns-then-not-is_yes c = text_wrong _ _ _ _ _ _ _ c.is_model.ensures c.line-syntax.ensures c.read_entries-found.ensures.said c.first_of-said.ensures (sym c.is_yes.ensures ∙ c.if-not-is_yes.true)
-
-pub judge_values-requires : goal.judge_values-requires
-judge_values-requires c = (c.requires.0.accepted, given_room _ _ _ _ _ _ _ _ _ c.args.values.now _ c.requires.0 _ c.read_entries-found.ensures (found_right _ _ _ _ _ _ _ c.is_model.ensures c.line-syntax.ensures c.read_entries-found.ensures.said c.first_of-said.ensures (sym c.is_yes.ensures ∙ c.if-not-is_yes.false)), placing _ _ _ _ _ _ _ _ _ _ _ c.requires.0 _ c.read_entries-found.ensures (found_right _ _ _ _ _ _ _ c.is_model.ensures c.line-syntax.ensures c.read_entries-found.ensures.said c.first_of-said.ensures (sym c.is_yes.ensures ∙ c.if-not-is_yes.false)) c.requires.3)
+pub returns-in_err-and : goal.returns-in_err-and
+returns-in_err-and c =
+    let z : c.from_residual.result ≡ Err c.in_err-and.field-0.0 = search rules in
+    text_fault _ _ _ _ _ _ c.is_model.ensures c.refuse_if-syntax.ensures c.read_entries-found.ensures.said _ (sym c.and.ensures ∙ c.in_err-and.was) _ z
 
 pub returns : goal.returns
-returns c = text_right _ _ _ _ _ _ _ c.is_model.ensures c.line-syntax.ensures c.read_entries-found.ensures.said c.first_of-said.ensures _ (sym c.is_yes.ensures ∙ c.if-not-is_yes.false) (text_judged _ _ _ _ _ _ _ _ _ c.args.values.now _ c.requires.0 _ c.read_entries-found.ensures (found_right _ _ _ _ _ _ _ c.is_model.ensures c.line-syntax.ensures c.read_entries-found.ensures.said c.first_of-said.ensures (sym c.is_yes.ensures ∙ c.if-not-is_yes.false)) _ c.judge_values.ensures)
+returns c =
+    let h = sym c.and.ensures ∙ c.in_ok-and.was in
+    text_passed _ _ _ _ _ _ c.is_model.ensures c.refuse_if-syntax.ensures c.read_entries-found.ensures.said _ h _
+    (text_judged _ _ _ _ _ _ _ c.args.variables.now.prepared _ c.read_entries-found.ensures (found_nothing _ _ _ _ _ _ c.is_model.ensures c.refuse_if-syntax.ensures c.read_entries-found.ensures.said _ h) _ c.judge_values.ensures)

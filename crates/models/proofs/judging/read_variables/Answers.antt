@@ -1,22 +1,17 @@
--- The loop's invariant: the first k ids are those of the variables below i.
-use Rattle.std.proofs.Common.{arith, ◌-◌}
-use Rattle.models.specs.laws.Variables.{kept_none, kept_all}
+-- The loop's invariant: the first ids are those of the variables below i.
+use Rattle.std.proofs.Common.{arith, ap, rules}
+use Rattle.problem.specs.declared.layout.Node.{Node}
+use Rattle.problem.specs.laws.Facts.{accepted_facts}
+use Rattle.models.specs.laws.Variables.{kept_more, kept_same}
 use Rattle.models.proofs.judging.read_variables.Goals as goal
+use Rattle.models.proofs.judging.read_variables.Goals.{then-node-eq-VARIABLE, else-node-eq-VARIABLE}
 
-pub loop-i-init : goal.loop-i-init
-loop-i-init c = (c.node_count-n.ensures, omega arith, kept_none _ _ c.requires.1)
-
-pub keep-k-requires : goal.keep-k-requires
-keep-k-requires c = (c.requires.0, omega (arith, c.loop-i.invariant.0), c.loop-i.invariant.2)
-
-pub overflow_add-i : goal.overflow_add-i
-overflow_add-i c = omega arith
-
-pub loop-i-smaller : goal.loop-i-smaller
-loop-i-smaller c = omega arith
+pub bounds-ids-count : goal.bounds-ids-count
+bounds-ids-count c = omega (arith, c.loop-i.invariant.few, c.loop-i.invariant.room, (accepted_facts c.args.problem.bytes.now c.args.problem.accepted).header.nodes)
 
 pub loop-i-preserved : goal.loop-i-preserved
-loop-i-preserved c = (c.loop-i.invariant.0, omega arith, c.keep-k.ensures)
-
-pub returns : goal.returns
-returns c = kept_all _ _ _ _ _ c.loop-i.invariant.2 (omega (arith, c.loop-i.invariant.0))
+loop-i-preserved c =
+    elim c.if-node-eq-VARIABLE.branch [
+      | then-node-eq-VARIABLE w ↦ rw (w.ids-is, w.count-is) (kept_more _ _ _ _ _ c.loop-i.invariant (ap (λ (n : Node). n.kind) c.node.ensures.node) (search rules) (omega (arith, (accepted_facts c.args.problem.bytes.now c.args.problem.accepted).header.nodes, c.node_count-i-end.ensures)))
+      | else-node-eq-VARIABLE w ↦ rw (w.ids-is, w.count-is) (kept_same _ _ _ _ _ c.loop-i.invariant (ap (λ (n : Node). n.kind) c.node.ensures.node) (search rules))
+    ]

@@ -1,11 +1,7 @@
 -- At most one is open; none is essential; those that are both.
 use Rattle.std.proofs.Common.{arith}
-use Rattle.picking.specs.laws.Positions.{few_positions}
-use Rattle.moves.proofs.Steps.{few_marks, fair_open, sole_open, none_essential, some_essential}
+use Rattle.moves.proofs.Steps.{fair_open, sole_open, none_essential, some_essential}
 use Rattle.moves.proofs.step.candidates.Goals as goal
-
-pub count-requires : goal.count-requires
-count-requires c = few_marks (few_positions c.args.s.kind) c.open_positions-opens.ensures
 
 pub returns-then-count-le1 : goal.returns-then-count-le1
 returns-then-count-le1 c =

@@ -1,18 +1,21 @@
--- `nodes::due::is_due` meets its contract.
-use Rattle.nodes.specs.laws.Readings.{there_below}
+use Rattle.std.proofs.Common.{◌≡◌, refl, ◌∙◌, ℕ, Bool, true, false, slice_index_or, nat_lt}
+use Rattle.std.specs.Prelude.{cond}
+use Rattle.nodes.specs.Problem.{one_of}
 use Rattle.nodes.specs.laws.Taking.{due_tells}
 use Rattle.nodes.proofs.due.is_due.Goals as goal
 
-pub mark_if-a-requires : goal.mark_if-a-requires
-mark_if-a-requires c = there_below c.args.n c.requires.0 c.requires.1 0
-
-pub mark_if-b-requires : goal.mark_if-b-requires
-mark_if-b-requires c = there_below c.args.n c.requires.0 c.requires.1 1
-
-pub mark_if-c-requires : goal.mark_if-c-requires
-mark_if-c-requires c = there_below c.args.n c.requires.0 c.requires.1 2
+of_cond : (t : Bool) (x : ℕ) → cond t x 0 ≡ one_of t x 0
+of_cond true x = refl
+of_cond false x = refl
 
 pub returns : goal.returns
 returns c =
-    rw (c.mark_if-a.ensures, c.mark_if-b.ensures, c.mark_if-c.ensures)
-    (due_tells c.args.marks.now c.args.n c.args.all c.args.count c.requires.1)
+    let read = λ (i m : ℕ). of_cond (nat_lt i c.args.count) (slice_index_or c.args.marks.now m 0) in
+    rw (
+      c.from.ensures,
+      c.is_all.ensures,
+      c.at_if-a.ensures ∙ read 0 c.args.n.a,
+      c.at_if-b.ensures ∙ read 1 c.args.n.b,
+      c.at_if-c.ensures ∙ read 2 c.args.n.c,
+    )
+    (due_tells _ _ _ _ c.requires.counted)

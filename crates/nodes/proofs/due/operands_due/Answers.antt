@@ -1,4 +1,3 @@
--- `nodes::due::operands_due` meets its contract.
 use Rattle.nodes.specs.inner.Nodes.{Offered.offered, Offered.withheld}
 use Rattle.nodes.proofs.due.operands_due.Goals as goal
 

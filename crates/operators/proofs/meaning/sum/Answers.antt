@@ -1,7 +1,7 @@
 -- A sum modulo 2^64, cut to w bits, is the sum modulo 2^w.
-use Rattle.std.proofs.Common.{◌+◌, ◌∙◌, arith}
+use Rattle.std.proofs.Common.{refl, ◌+◌, ◌∙◌, arith}
 use Rattle.operators.specs.laws.Cuts.{recut}
 use Rattle.operators.proofs.meaning.sum.Goals as goal
 
 pub returns : goal.returns
-returns c = c.to_width.ensures ∙ recut _ (c.args.a + c.args.b) 64 _ c.wrapping_add_u64.ensures.value (omega arith)
+returns c = c.to_width.ensures ∙ recut _ (c.args.a + c.args.b) 64 _ refl (omega arith)

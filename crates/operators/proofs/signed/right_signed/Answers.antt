@@ -1,17 +1,11 @@
 -- Where the sign is set, the complement of what the complement is shifted to.
-use Rattle.std.proofs.Common.{ℕ, ◌-◌, ◌/◌, ◌^◌, sym, ap, ◌∙◌, le_trans, le_of_eq, lt_of_lt_of_le, lt_of_le_of_lt}
-use lib.Pow.{shr_le, ones_sub-lt}
+use Rattle.std.proofs.Common.{ℕ, ◌-◌, ◌/◌, ◌^◌, sym, ap, ◌∙◌, le_trans, le_of_eq, lt_of_lt_of_le}
 use Rattle.operators.specs.laws.Signed.{ashr_low, ashr_high}
 use Rattle.operators.proofs.signed.right_signed.Goals as goal
 
 pub returns-then-a-half : goal.returns-then-a-half
 returns-then-a-half c =
     c.right.ensures ∙ sym (ashr_low c.args.w c.args.b (lt_of_lt_of_le c.if-a-half.true (le_of_eq c.half.ensures)))
-
-pub flip-requires-2 : goal.flip-requires-2
-flip-requires-2 c =
-    let n = c.flip.result in
-    (c.requires.0, c.requires.1, rw c.right-2.ensures (lt_of_le_of_lt (shr_le n c.args.b) (rw c.flip.ensures (ones_sub-lt c.args.w c.args.a))))
 
 pub returns : goal.returns
 returns c =

@@ -1,9 +1,6 @@
 -- Everything divides 0; a factor of another t has a set bit no higher than t's lowest.
-use Rattle.picking.proofs.ArithmeticLaws.{some_mul_zero, some_mul}
+use Rattle.picking.proofs.ArithmeticLaws.{some_mul}
 use Rattle.picking.proofs.arithmetic.consistent_mul.Goals as goal
-
-pub returns-then-t-eq0 : goal.returns-then-t-eq0
-returns-then-t-eq0 c = some_mul_zero c.requires c.if-t-eq0.true c.all.ensures
 
 pub returns : goal.returns
 returns c = some_mul c.requires c.low_bit.ensures

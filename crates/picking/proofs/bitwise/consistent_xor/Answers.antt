@@ -3,4 +3,4 @@ use Rattle.picking.proofs.BitwiseLaws.{some_xor_by}
 use Rattle.picking.proofs.bitwise.consistent_xor.Goals as goal
 
 pub returns : goal.returns
-returns c = some_xor_by c.args.l c.args.h c.args.t c.requires c.agreeing.ensures
+returns c = some_xor_by c.args.pair.lo c.args.pair.hi c.args.t c.args.pair.within c.agreeing.ensures

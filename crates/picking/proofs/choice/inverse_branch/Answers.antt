@@ -1,11 +1,7 @@
 -- The branch that is taken gives v itself, the other one what stands there.
-use Rattle.std.proofs.Common.{sym, ◌∙◌}
-use Rattle.picking.proofs.ChoiceLaws.{taken_by, left_by}
+use Rattle.std.proofs.Common.{◌∙◌}
+use Rattle.picking.proofs.ChoiceLaws.{left_by}
 use Rattle.picking.proofs.choice.inverse_branch.Goals as goal
-
-pub returns-then-branch-i : goal.returns-then-branch-i
-returns-then-branch-i c =
-    taken_by c.args.now c.requires.0 c.requires.1 (sym c.branch-now.ensures ∙ c.if-branch-i.true) c.only.ensures
 
 pub returns : goal.returns
 returns c =

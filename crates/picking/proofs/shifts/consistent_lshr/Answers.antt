@@ -24,4 +24,4 @@ overflow_sub-n-2 c =
 
 pub returns : goal.returns
 returns c =
-    rw (position_one c.args.i c.requires.0 c.if-i-eq0.false) (some_right c.requires.1 c.top_bit.ensures c.range.ensures)
+    rw (position_one c.args.i c.requires.0 c.if-i-eq0.false) (some_right c.requires.1 c.top_bit.ensures (rw c.from.ensures at c.range.ensures))

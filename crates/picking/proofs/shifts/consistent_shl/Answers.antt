@@ -14,4 +14,4 @@ returns-then-i-eq0 c =
 
 pub returns : goal.returns
 returns c =
-    rw (position_one c.args.i c.requires.0 c.if-i-eq0.false) (some_amount c.requires.1 c.if-t-eq0.false c.low_bit-n.ensures c.range.ensures)
+    rw (position_one c.args.i c.requires.0 c.if-i-eq0.false) (some_amount c.requires.1 c.if-t-eq0.false c.low_bit-n.ensures (rw c.from.ensures at c.range.ensures))

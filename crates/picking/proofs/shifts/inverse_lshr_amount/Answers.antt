@@ -1,18 +1,13 @@
 -- The amount is the difference of the highest bits, or any from where nothing is left.
-use Rattle.std.proofs.Common.{ℕ, ◌/◌, ◌^◌, sym, refl, ap, ◌∙◌, le_refl, arith}
-use native.Mathlib.Nat.{zero-div}
-use Rattle.boxes.specs.laws.Solves.{same_by, from_by, only_by, solves_none}
+use Rattle.std.proofs.Common.{◌/◌, ◌^◌, sym, refl, ◌∙◌, le_refl, arith}
+use Rattle.boxes.specs.laws.Solves.{from_by, only_by, solves_none}
 use Rattle.picking.proofs.ShiftLaws.{lshr_gone, lshr_from, lshr_sum}
 use Rattle.picking.proofs.shifts.inverse_lshr_amount.Goals as goal
-
-pub returns-then-x-eq0 : goal.returns-then-x-eq0
-returns-then-x-eq0 c =
-    same_by (λ v. c.args.x / 2 ^ v) (le_refl 64) (λ v l. ap (λ (n : ℕ). n / 2 ^ v) c.if-x-eq0.true ∙ zero-div (2 ^ v)) c.all_if.ensures
 
 pub returns-then-t-eq0 : goal.returns-then-t-eq0
 returns-then-t-eq0 c =
     let e = c.if-t-eq0.true in
-    from_by (λ v. c.args.x / 2 ^ v) (le_refl 64) (λ v l. lshr_gone c.top_bit-i.ensures v l ∙ sym e) (λ v m. lshr_from c.top_bit-i.ensures v (m ∙ e)) c.range.ensures
+    from_by (λ v. c.args.x / 2 ^ v) (le_refl 64) (λ v l. lshr_gone c.top_bit-i.ensures v l ∙ sym e) (λ v m. lshr_from c.top_bit-i.ensures v (m ∙ e)) (rw c.from.ensures at c.range.ensures)
 
 pub returns-then-i-j : goal.returns-then-i-j
 returns-then-i-j c =
@@ -21,4 +16,4 @@ returns-then-i-j c =
 pub returns : goal.returns
 returns c =
     only_by (λ v. c.args.x / 2 ^ v) (le_refl 64)
-    (λ v m. let e = lshr_sum c.top_bit-i.ensures c.if-t-eq0.false c.top_bit-j.ensures v m in omega arith) refl c.only_if.ensures
+    (λ v m. let e = lshr_sum c.top_bit-i.ensures c.if-t-eq0.false c.top_bit-j.ensures v m in omega arith) refl (rw c.from-2.ensures at c.only_if.ensures)

@@ -1,16 +1,12 @@
 -- All is shifted out from 64 on; else t with any s bits below, if that is a word.
 use Rattle.std.proofs.Common.{◌/◌, ◌^◌, le_refl}
-use Rattle.boxes.specs.laws.Solves.{same_by, solves_none}
-use Rattle.picking.proofs.ShiftLaws.{lshr_past, lshr_none, lshr_span, span_fits}
+use Rattle.boxes.specs.laws.Solves.{same_by}
+use Rattle.picking.proofs.ShiftLaws.{lshr_past, lshr_span, span_fits}
 use Rattle.picking.proofs.shifts.inverse_lshr_operand.Goals as goal
 
 pub returns-then-s-ge64 : goal.returns-then-s-ge64
 returns-then-s-ge64 c =
     same_by (λ v. v / 2 ^ c.args.s) (le_refl 64) (λ v l. lshr_past c.args.s v l c.if-s-ge64.true) c.all_if.ensures
-
-pub returns-then-k-t : goal.returns-then-k-t
-returns-then-k-t c =
-    solves_none (λ v l m. lshr_none c.args.s c.args.t c.if-k-t.true v l m)
 
 pub shifted-requires : goal.shifted-requires
 shifted-requires c =

@@ -2,13 +2,9 @@
 use Rattle.std.proofs.Common.{◌*◌, ◌%◌, ◌^◌, sym, ◌∙◌, arith}
 use Rattle.words.specs.laws.Modular.{cut_cut}
 use Rattle.words.specs.laws.Zeros.{tail_lt}
-use Rattle.boxes.specs.laws.Solves.{same_by, from_by, only_by, solves_none}
-use Rattle.picking.proofs.ShiftLaws.{zero_shl, shl_gone, shl_from, shl_sum}
+use Rattle.boxes.specs.laws.Solves.{from_by, only_by, solves_none}
+use Rattle.picking.proofs.ShiftLaws.{shl_gone, shl_from, shl_sum}
 use Rattle.picking.proofs.shifts.inverse_shl_amount.Goals as goal
-
-pub returns-then-x-eq0 : goal.returns-then-x-eq0
-returns-then-x-eq0 c =
-    same_by (λ v. c.args.x * 2 ^ v % 2 ^ c.args.w) c.requires.0.wide (λ v l. zero_shl c.args.w v c.args.x c.if-x-eq0.true) c.all_if.ensures
 
 pub overflow_sub-w : goal.overflow_sub-w
 overflow_sub-w c =
@@ -19,7 +15,7 @@ returns-then-t-eq0 c =
     let e = c.if-t-eq0.true in
     from_by (λ v. c.args.x * 2 ^ v % 2 ^ c.args.w) c.requires.0.wide
     (λ v l. shl_gone c.requires.0.wide c.low_bit-i.ensures v l ∙ sym e)
-    (λ v m. shl_from c.requires.0.wide c.low_bit-i.ensures v (m ∙ e)) c.range.ensures
+    (λ v m. shl_from c.requires.0.wide c.low_bit-i.ensures v (m ∙ e)) (rw c.from.ensures at c.range.ensures)
 
 pub returns-then-j-i : goal.returns-then-j-i
 returns-then-j-i c =
@@ -29,4 +25,4 @@ pub returns : goal.returns
 returns c =
     only_by (λ v. c.args.x * 2 ^ v % 2 ^ c.args.w) c.requires.0.wide
     (λ v m. let e = shl_sum c.requires.0.wide c.low_bit-i.ensures c.if-t-eq0.false c.low_bit-j.ensures v m in omega arith)
-    (c.cut.ensures ∙ cut_cut _ 64 _ c.requires.0.wide) c.only_if.ensures
+    (c.cut.ensures ∙ cut_cut _ 64 _ c.requires.0.wide) (rw c.from-2.ensures at c.only_if.ensures)

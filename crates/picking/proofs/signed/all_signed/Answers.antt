@@ -1,9 +1,6 @@
 -- The half of the words that has the sign.
-use Rattle.picking.proofs.SignedLaws.{half_pos, signs_low, signs_high}
+use Rattle.picking.proofs.SignedLaws.{signs_low, signs_high}
 use Rattle.picking.proofs.signed.all_signed.Goals as goal
-
-pub overflow_sub-h : goal.overflow_sub-h
-overflow_sub-h c = half_pos _ c.half-h.ensures
 
 pub returns-then-t-eq0 : goal.returns-then-t-eq0
 returns-then-t-eq0 c = signs_low c.requires.0 c.half-h.ensures c.if-t-eq0.true c.range.ensures

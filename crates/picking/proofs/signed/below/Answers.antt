@@ -1,10 +1,6 @@
 -- One interval, the lower half, or two ends.
-use Rattle.std.proofs.Common.{arith}
-use Rattle.picking.proofs.SignedLaws.{half_pos, below_low, below_zero, below_high}
+use Rattle.picking.proofs.SignedLaws.{below_low, below_zero, below_high}
 use Rattle.picking.proofs.signed.below.Goals as goal
-
-pub overflow_sub-s : goal.overflow_sub-s
-overflow_sub-s c = omega (arith, half_pos _ c.half-h.ensures)
 
 pub returns-then-s-h : goal.returns-then-s-h
 returns-then-s-h c = below_high c.requires c.half-h.ensures c.if-s-h.true c.range.ensures

@@ -14,4 +14,4 @@ pub overflow_sub-w-3 : goal.overflow_sub-w-3
 overflow_sub-w-3 c = omega (arith, top_under c.requires c.fold-u.ensures c.top_bit.ensures)
 
 pub returns : goal.returns
-returns c = some_ashr_amount c.requires c.fold-u.ensures c.top_bit.ensures c.range.ensures
+returns c = some_ashr_amount c.requires c.fold-u.ensures c.top_bit.ensures (rw c.from.ensures at c.range.ensures)

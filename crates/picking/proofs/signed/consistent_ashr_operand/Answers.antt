@@ -1,10 +1,7 @@
 -- All of a sign, or the row of the shifts, or its complements.
 use Rattle.std.proofs.Common.{arith}
-use Rattle.picking.proofs.SignedLaws.{sign_alone, top_under, row_same, row_mirrored}
+use Rattle.picking.proofs.SignedLaws.{top_under, row_same, row_mirrored}
 use Rattle.picking.proofs.signed.consistent_ashr_operand.Goals as goal
-
-pub all_signed-requires : goal.all_signed-requires
-all_signed-requires c = (c.requires, sign_alone c.requires c.fold-u.ensures c.if-u-eq0.true)
 
 pub overflow_sub-n-2 : goal.overflow_sub-n-2
 overflow_sub-n-2 c = omega (arith, top_under c.requires c.fold-u.ensures c.top_bit.ensures)

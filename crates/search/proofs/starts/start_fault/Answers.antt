@@ -1,14 +1,10 @@
--- `search::starts::start_fault` meets its contract.
-use Rattle.std.proofs.Common.{refl, []}
-use Rattle.problem.specs.laws.Facts.{accepted_facts, node_inside}
-use Rattle.problem.specs.laws.First.{line_at_start, line_more}
-use Rattle.problem.specs.Refusals.{bit_outside}
-use Rattle.search.specs.Call.{start_fault, disagrees}
+-- One test, of a node that is there.
+use Rattle.std.proofs.Common.{refl}
+use Rattle.problem.specs.Refusals.{first_of}
+use Rattle.search.specs.Call.{start_fault}
+use Rattle.search.specs.laws.Starts.{disagrees_is}
 use Rattle.search.proofs.starts.start_fault.Goals as goal
 
-pub node_at-n-requires : goal.node_at-n-requires
-node_at-n-requires c = node_inside (accepted_facts _ c.requires.0.accepted) _ c.requires.1
-
 pub returns : goal.returns
-unfolding start_fault disagrees bit_outside
-returns c = rw (← c.node_at-n.ensures) (line_more _ [] 15 _ _ _ _ (line_at_start _) refl c.line.ensures)
+unfolding start_fault first_of
+returns c = rw (c.refuse_if.ensures, ← disagrees_is _ _ _ _ c.agrees-fits.ensures, c.node-n.ensures.node, c.from.ensures) refl

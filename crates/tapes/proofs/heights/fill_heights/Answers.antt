@@ -1,27 +1,18 @@
--- `tapes::heights::fill_heights` meets its contract.
-use Rattle.std.proofs.Common.{◌≡◌, ◌<◌, ◌-◌, arith}
+-- One height more.
+use Rattle.std.proofs.Common.{◌<◌, length, arith}
 use Rattle.nodes.specs.Problem.{problem}
-use Rattle.nodes.specs.laws.Good.{good_of}
-use Rattle.tapes.proofs.Links.{heights_more, heights_all}
+use Rattle.tapes.proofs.Links.{node_few, heights_more}
 use Rattle.tapes.proofs.heights.fill_heights.Goals as goal
 
-pub loop-i-init : goal.loop-i-init
+pub bounds-heights-from : goal.bounds-heights-from
 unfolding problem
-loop-i-init c = (c.node_count-n.ensures, omega arith, c.requires)
-
-pub height_at-h-requires : goal.height_at-h-requires
-height_at-h-requires c = (c.loop-i.invariant.2, omega arith)
-
-pub bounds-heights-i : goal.bounds-heights-i
-bounds-heights-i c = omega (arith, (good_of _ c.loop-i.invariant.2.accepted).few)
+bounds-heights-from c =
+    let inside : c.loop-i.i < (problem c.args.problem.bytes.now).nodes = omega (arith, c.loop-i-test.true, c.node_count-i-end.ensures) in
+    omega (arith, c.from.ensures, node_few _ _ c.args.problem.accepted inside)
 
 pub loop-i-preserved : goal.loop-i-preserved
+unfolding problem
 loop-i-preserved c =
-    let l = c.loop-i in
-    let inside : l.i < (problem c.args.bytes.now).nodes = omega arith in
-    (l.invariant.0, omega arith, heights_more _ _ _ l.invariant.2 inside _ c.height_at-h.ensures)
-
-pub returns : goal.returns
-returns c =
-    let e : c.loop-i.i ≡ (problem c.args.bytes.now).nodes = omega arith in
-    heights_all _ _ _ _ e c.loop-i.invariant.2
+    let inside : c.loop-i.i < (problem c.args.problem.bytes.now).nodes = omega (arith, c.loop-i-test.true, c.node_count-i-end.ensures) in
+    let there : c.loop-i.i < length c.loop-i.heights = omega (arith, node_few _ _ c.args.problem.accepted inside) in
+    rw c.from.ensures (heights_more _ _ _ _ there c.loop-i.invariant c.height_at.ensures)

@@ -1,21 +1,22 @@
--- `tapes::heights::height_at` meets its contract.
-use Rattle.nodes.specs.laws.Readings.{node_there}
+-- The heights of the operands passed, and at the end of all.
+use Rattle.std.proofs.Common.{◌≡◌, ◌<◌, ◌∙◌, arith}
 use Rattle.tapes.proofs.Links.{operand_there, height_made}
 use Rattle.tapes.proofs.heights.height_at.Goals as goal
 
-pub node_at-n-requires : goal.node_at-n-requires
-node_at-n-requires c = node_there _ _ c.requires.0.accepted c.requires.1
+pub bounds-heights-from : goal.bounds-heights-from
+bounds-heights-from c =
+    let j = c.loop-j.j in
+    let there : j < c.operand_count.result = omega (arith, c.loop-j-test.true, c.from-count.ensures) in
+    (operand_there _ _ _ c.args.problem.accepted c.requires.so_far c.requires.inside _ _ j _ c.node-node.ensures.node c.operand_count.ensures there (c.from.ensures ∙ c.operand.ensures)).0
 
-pub through-a-requires : goal.through-a-requires
-through-a-requires c = operand_there _ _ _ c.requires.0 c.requires.1 _ c.node_at-n.ensures c.operand_count-count.ensures 0
-
-pub through-b-requires : goal.through-b-requires
-through-b-requires c = operand_there _ _ _ c.requires.0 c.requires.1 _ c.node_at-n.ensures c.operand_count-count.ensures 1
-
-pub through-c-requires : goal.through-c-requires
-through-c-requires c = operand_there _ _ _ c.requires.0 c.requires.1 _ c.node_at-n.ensures c.operand_count-count.ensures 2
+pub overflow_add-heights : goal.overflow_add-heights
+overflow_add-heights c =
+    let j = c.loop-j.j in
+    let there : j < c.operand_count.result = omega (arith, c.loop-j-test.true, c.from-count.ensures) in
+    let small = (operand_there _ _ _ c.args.problem.accepted c.requires.so_far c.requires.inside _ _ j _ c.node-node.ensures.node c.operand_count.ensures there (c.from.ensures ∙ c.operand.ensures)).1 in
+    record { fits = omega (arith, small) }
 
 pub returns : goal.returns
 returns c =
-    height_made _ _ _ c.requires.0 c.requires.1 _ _ _ _ _ _ _ c.node_at-n.ensures c.operand_count-count.ensures c.through-a.ensures
-    c.through-b.ensures c.through-c.ensures c.later.ensures c.later-2.ensures
+    let e : c.loop-j.j ≡ c.operand_count.result = omega (arith, c.from-count.ensures, c.loop-j-test.false) in
+    height_made _ _ _ c.args.problem.accepted c.requires.so_far c.requires.inside _ _ _ c.node-node.ensures.node c.operand_count.ensures (rw e at c.loop-j.invariant)

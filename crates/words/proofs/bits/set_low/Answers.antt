@@ -1,10 +1,6 @@
 -- Taking the low bits off and adding others is `over`; what results is a word again.
-use native.Mathlib.Nat.{mod-le}
 use Rattle.words.specs.laws.Narrow.{over_by_sub, over_lt}
 use Rattle.words.proofs.bits.set_low.Goals as goal
-
-pub overflow_sub-result : goal.overflow_sub-result
-overflow_sub-result c = rw c.cut.ensures (mod-le c.args.x _)
 
 pub overflow_add-result : goal.overflow_add-result
 overflow_add-result c =

@@ -1,5 +1,0 @@
--- Position 0 is the condition.
-use Rattle.picking.proofs.choice.consistent_if.Goals as goal
-
-pub returns-then-i-eq0 : goal.returns-then-i-eq0
-returns-then-i-eq0 c = rw c.if-i-eq0.true c.consistent_condition.ensures

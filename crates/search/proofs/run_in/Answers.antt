@@ -1,0 +1,8 @@
+-- Arrays of zeros are the room.
+use Rattle.search.specs.laws.Room.{unprepared}
+use Rattle.nodes.specs.Problem.{problem}
+use Rattle.search.proofs.run_in.Goals as goal
+
+pub of-ready-requires : goal.of-ready-requires
+unfolding problem
+of-ready-requires g c = rw (← c.requires.slots) (unprepared g.row.N c.requires.room)
