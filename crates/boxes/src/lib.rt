@@ -23,7 +23,7 @@ pub struct Box {
 }
 
 // A set of words: none, a box, several boxes, or a single word if it is there, which is asked together with whether it
-// agrees: with a variant less, as pick_only's contract names it, an empty set would cost the hottest pick a branch.
+// agrees: the word and whether it is there stand together, as the contract of `pick_only` names them.
 #[derive(Clone, Copy, Debug, PartialEq, Eq)]
 pub enum Set {
     Empty,

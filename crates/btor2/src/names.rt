@@ -111,7 +111,7 @@ impl Sorts {
     }
 
     // The width kept for a sort's id; 0, as for a width that no sort has, where the id is not there.
-    // (By number: it is the place in both arrays, and `position` would want a `match` more.)
+    // (0 and no `Option`, as `WidthKept` and `width_of` have it; by number, as it is the place in both arrays.)
     fn width_kept(&self, id: u64) -> u8
         ensures { WidthKept self.now.ids self.now.widths self.now.count id result }
     {

@@ -27,7 +27,7 @@ fn short_of(t: &[u8]) -> u8
 }
 
 // The id of the sort that an input's and a value's line names; 0 on other lines, and for one that 64 bits do not hold.
-// (0, as `small` has it: no sort has that id.)
+// (0, as the definitions `sort_named` and `small` have it: no sort has that id.)
 #[tactic(auto, unfolding(lines::specs::inner::Told::small))]
 fn sort_named(makes: Makes, t: &[u8]) -> u64
     ensures { result ≡ small (sort_named makes t.now) }

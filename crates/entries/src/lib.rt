@@ -147,7 +147,7 @@ pub fn name_at(text: &[u8], at: usize) -> &[u8]
     inside(first_token(text, at))
 }
 
-// (It and name_at differ in one call and in what they answer, two lines each: no plainer as one.)
+// (It and `name_at` differ in one call and in what they answer, one line each: no plainer as one.)
 fn sort_at(text: &[u8], at: usize) -> u64
     requires { at ≤ length text.now }
     ensures { result ≡ width_said (slice_index_or (tokens (drop at text.now)) 0 []) }
@@ -181,7 +181,7 @@ fn value_at(text: &[u8], at: usize) -> Option<u64>
 }
 
 // The word that the sort and the value at two places give to a variable of so many bits; by `Err`, where they do not fit it (34).
-// It is the value itself; 0 where 64 bits do not hold that.
+// It is the value itself; 0 where 64 bits do not hold that. (0, and the word also where it does not fit, as `item_said` has it.)
 pub fn item_at(text: &[u8], sort: usize, value: usize, w: u8) -> Result<u64, u64>
     requires { (sort ≤ length text.now) × (value ≤ length text.now) }
     ensures { result ≡ item_said text.now sort value w }

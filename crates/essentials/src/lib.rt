@@ -12,7 +12,7 @@ ghost use Rattle.essentials.specs.inner.Asks.{Alone};
 use operators::{KINDS, kind};
 use picking::{Spot, at, branch, some_inverse};
 
-// What a kind of one position gives on its current value.
+// What a kind of one position gives on its current value. (By `if`: there are three, and a `match` would want an arm for the rest.)
 fn value_now(s: Spot) -> u64
     requires { Fair s × Alone s.kind }
     ensures { result ≡ value s s.current }

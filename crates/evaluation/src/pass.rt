@@ -9,7 +9,8 @@ use nodes::{Scope, taken_at};
 use problem::Problem;
 
 // The nodes of a pass, from `first` up to `end`: all, or those above a variable, of which `first` is the first that reads it, and
-// none stands at `end` or after it.
+// none stands at `end` or after it. (0 and no `Option` for the variable where all are evaluated: `Asked` has it so, and one loop
+// serves both.)
 #[derive(Clone, Copy, Debug, PartialEq, Eq)]
 pub(crate) struct Span {
     pub scope: Scope,

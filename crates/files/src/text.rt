@@ -3,7 +3,7 @@
 // `Prints` promises the whole text.)
 ghost use Rattle.std.specs.Prelude.{◌≤◌, length};
 
-// A buffer, whose first `used` places hold text.
+// A buffer, whose first `used` places hold text. (It holds what is lent by `&mut`, and is never compared: so no `Clone`, no `PartialEq`.)
 #[derive(Debug, Drop)]
 pub(crate) struct Text<'a> {
     pub out: &'a mut [u8],

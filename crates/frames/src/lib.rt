@@ -75,7 +75,7 @@ fn gather_all(
 
 /// Calls the search start after start, and keeps up to 64 solutions that differ on the named variables; or a refusal, which leaves
 /// every place as it was.
-// (Nine parameters: those of C's call, of which `Gather` speaks one by one.)
+// (Nine parameters: those of C's `wal_gather` but `out`, of which `Gather` speaks one by one.)
 pub fn gather(
     problem: &[u8],
     starts: u64,

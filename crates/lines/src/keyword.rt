@@ -1,4 +1,4 @@
-// The keywords of the list, by name. A keyword is a number, its place in the list, so that a `match` may name a range of them.
+// The keywords of the list, by name. A keyword is a number, its place in the list, as `number_of_determined` has it.
 pub const SORT: u8 = 0;
 
 pub const INPUT: u8 = 1;

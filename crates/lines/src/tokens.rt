@@ -73,6 +73,7 @@ pub fn mark_tokens(line: &[u8], marks: &mut [usize])
 }
 
 /// A line with the places where its first 12 tokens begin and end, as `mark_tokens` stores them.
+// (A view of a lent line is never compared: so no `PartialEq`.)
 #[derive(Clone, Copy, Debug)]
 pub struct MarkedLine<'a> {
     pub text: &'a [u8],

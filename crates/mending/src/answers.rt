@@ -21,7 +21,7 @@ fn circle_fault(problem: &[u8], news: &[u16]) -> Result<(), Refusal>
     refuse_if(id < n, Fault::Circle, id)
 }
 
-// An entry of the map, and 0 past its end.
+// An entry of the map, and 0 past its end, as `at_old` has it.
 // (One line of the library, named, as `held` in `models`: one for both would be no plainer.)
 fn old_at(olds: &[u16], k: u16) -> u16
     ensures { result ≡ get_or olds.now k 0 }

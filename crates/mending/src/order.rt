@@ -59,7 +59,7 @@ fn is_ready(problem: &[u8], news: &[u16], i: u16) -> bool
 }
 
 // A mark for node i, if it is ready.
-// (news and marks apart, here and below: the one is read where the other is written.)
+// (news and marks apart, here and below: here and in `wake` the one is read where the other is written, and `settle` lends them on.)
 fn try_node(problem: &[u8], news: &[u16], marks: &mut [u64; 16], i: u16)
     requires { Triable problem.now i marks.old }
     ensures { marks.new ≡ cond (ready problem.now news.now i) (with_mark marks.old i) marks.old }

@@ -16,7 +16,7 @@ pub(crate) struct Chains {
     pub nexts: [u16; 3072],
 }
 
-// A slot put in front of the chain of the node x that it names, where it is an operand.
+// A slot put in front of the chain of the node x that it names, where it is an operand. (A bool and the field, as `Linked` has them.)
 fn link(chains: &mut Chains, operand: bool, slot: u16, x: u16)
     requires { Linkable operand slot x }
     ensures { Linked operand slot x chains.old.heads chains.old.nexts chains.new.heads chains.new.nexts }

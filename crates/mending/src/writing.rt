@@ -11,7 +11,7 @@ use operators::operand_count;
 use problem::{Node, node_at, node_count, root_at, root_count};
 
 // Bytes, from a place on.
-// (As `put` in `spelling`, which this crate does not know: `laid` and `sets` are two definitions.)
+// (As `put` in `spelling`: neither crate knows the other, and it is one line; `laid` is `sets` by another name.)
 #[tactic(auto, using(crate::specs::laws::Laid::laid_copied))]
 fn put_bytes(out: &mut [u8], at: usize, part: &[u8])
     requires { at + length part.now ≤ length out.old }
@@ -35,7 +35,7 @@ fn new_of(news: &[u16], id: u16) -> u16
     news.get(usize::from(id)).copied().unwrap_or(id)
 }
 
-// A field, renumbered where it names an operand.
+// A field, renumbered where it names an operand. (A bool and the field, as the contract has them.)
 fn renumber(news: &[u16], operand: bool, id: u16) -> u16
     ensures { result ≡ cond operand (get_or news.now id id) id }
 {

@@ -71,7 +71,7 @@ fn read_entries(variables: &Variables, text: &[u8], given: &mut Given) -> Result
 }
 
 // Whether node i is a variable whose value contradicts a fixed bit.
-// (By the two tests of its definition, and not `words::agrees`, whose contract says the same bit by bit.)
+// (By the two tests of the definition: by `words::agrees`, which speaks of bits, laws would have to be cited, and it is no plainer.)
 #[tactic(auto, unfolding(crate::specs::inner::Judging::is_contradicted, problem::specs::Refusals::bit_outside))]
 fn is_contradicted(problem: Problem, values: &[u64], i: u16) -> bool
     requires { (node_count problem.bytes.now ≤ length values.now) × (i < node_count problem.bytes.now) }
@@ -99,7 +99,7 @@ fn any_contradicted(problem: Problem, values: &[u64]) -> Result<(), Fault>
     Ok(())
 }
 
-// The value at a node's place, and 0 past the end.
+// The value at a node's place, and 0 past the end, as `zero_at` has it.
 // (One line of the library, named, as `old_at` in `mending`: one for both would be no plainer.)
 fn held(values: &[u64], id: u16) -> u64
     ensures { result ≡ get_or values.now id 0 }

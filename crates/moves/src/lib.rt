@@ -34,7 +34,7 @@ fn walk(run: &Prepared, values: &[u64], tape: Tape, from: u16, made: u64) -> Opt
     let mut n = from;
     let mut t = 1;
     let mut steps = made;
-    // No count ends it: it ends at a variable, or where the tape does.
+    // (A `loop`: no count ends it, but a variable, a step that finds nothing, or the tape's end.)
     loop {
         let node = run.pairs.problem.node(n);
         if node.kind == kind::VARIABLE {

@@ -1,5 +1,5 @@
 // What the positions of a node hold: its operands' widths, and what a list of 64-bit words has at their ids. A position that
-// the node's kind does not have holds 0.
+// the node's kind does not have holds 0, and no `Option`: `held_in` and `widths_in` have it so.
 ghost use Rattle.std.specs.Prelude.{◌≡◌, true, ◌<◌, length, slice_index_or, cond};
 ghost use Rattle.picking.specs.Spot.{at};
 ghost use Rattle.operators.specs.Table.{shape_of};

@@ -137,7 +137,7 @@ pub fn operand_count(kind: u8) -> u8
 }
 
 // Whether a width rule holds, of the node's width w, its operands' widths and its field b.
-// (Six parameters: the numbers of one row, as the definition has them.)
+// (Six parameters: a row's rule, and the node's numbers one by one, as the definition `rule_holds` has them.)
 #[tactic(auto, unfolding(crate::specs::Table::rule_holds))]
 pub fn rule_holds(rule: Rule, w: u8, wa: u8, wb: u8, wc: u8, b: u16) -> bool
     ensures { result ≡ rule_holds rule w wa wb wc b }

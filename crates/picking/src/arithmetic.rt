@@ -35,7 +35,7 @@ pub(crate) fn inverse_mul(w: u32, s: u64, t: u64) -> Set
     if words::cut(t, k) != 0 {
         return Set::Empty;
     }
-    let x = (t >> k).wrapping_mul(words::odd_inverse(s >> k));
+    let x = words::wrapping_mul(t >> k, words::odd_inverse(s >> k));
     basic::ending(w - k, words::cut(x, w - k))
 }
 

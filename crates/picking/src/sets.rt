@@ -1,8 +1,8 @@
 // The inverse and the consistent set of a node's position, without the operand's pair: by kind. A contract settles what is in a
-// set and not how it is cut into boxes, so functions that answer sets stay inside this crate. (Those of shl, ashr and udiv ask only
-// which of two positions is meant; each promises its own equation, so one function for all would take that as an argument and be
+// set and not how it is cut into boxes, so functions that answer sets stay inside this crate. (Those of shl, lshr, ashr and udiv ask
+// only which of two positions is meant; each promises its own equation, so one function for all would take that as an argument and be
 // longer than they are.)
-// (A width and a target are two parameters in these files, with one short clause, `Sized`, `Word` or `Short`: each asks no more than
+// (A width and a target are two parameters in these files, with one short clause, `Sized`, `Word`, `Short` or `Joined`, or spelled out: each asks no more than
 // its operator needs, which one type for all would not. A position is a number, and so is a bit: an enum would be made of it at each call.)
 ghost use Rattle.std.specs.Prelude.{◌≡◌, ◌-◌};
 ghost use Rattle.picking.specs.Spot.{at as standing, put, value, positions, Reaches, Fair, Asked};

@@ -5,7 +5,7 @@ ghost use Rattle.problem.specs.Refusals.{Accepted, checked};
 use crate::{Node, Refusal, check, layout, read_node};
 
 /// The bytes of an accepted problem.
-// (A view of lent bytes is never compared, here and in the crates above: so no `PartialEq`.)
+// (A view of what is lent, bytes, words or ids, is never compared, here and in the crates above: so no `PartialEq`.)
 #[derive(Clone, Copy, Debug)]
 pub struct Problem<'a> {
     pub bytes: &'a [u8],

@@ -14,7 +14,7 @@ pub struct Node {
     pub hi: u64,
 }
 
-// The byte at a place, and 0 past the end.
+// The byte at a place, and 0 past the end, as the definitions read there.
 // (Also in `texts`: neither crate knows the other, and it is one line.)
 pub(crate) fn byte_at(s: &[u8], p: usize) -> u8
     ensures { result ≡ get_or s.now p 0 }
@@ -108,7 +108,7 @@ pub fn node_at(problem: &[u8], i: u16) -> Node
     read_node(&problem[from..from + 24])
 }
 
-// The width of node i, and 0 where no byte is.
+// The width of node i, and 0 where no byte is, as its definition has it.
 #[tactic(auto, using(crate::specs::laws::Layout::width_byte))]
 pub fn width_at(problem: &[u8], i: u16) -> u8
     ensures { result ≡ width_at problem.now i }

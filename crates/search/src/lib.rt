@@ -33,7 +33,8 @@ pub enum Verdict {
     Closed,
 }
 
-/// A refusal with its number and place, or a verdict. (No `Result`: both are answers, beside their counts.)
+/// A refusal with its number and place, or a verdict. (No `Result`: document 01 has it as one enum beside the
+/// counts.)
 #[derive(Clone, Copy, Debug, PartialEq, Eq)]
 pub enum Outcome {
     Refused(Refusal),

@@ -6,7 +6,7 @@ ghost use Rattle.spelling.specs.Bytes.{node_bytes};
 use problem::Node;
 
 // Bytes, from a place on.
-// (As `put_bytes` in `mending`, which this crate does not know: `sets` and `laid` are two definitions.)
+// (As `put_bytes` in `mending`: neither crate knows the other, and it is one line; `laid` is `sets` by another name.)
 pub(crate) fn put(out: &mut [u8], at: usize, bytes: &[u8])
     requires { at + length bytes.now ≤ length out.old }
     ensures { out.new ≡ sets out.old at bytes.now }

@@ -17,7 +17,7 @@ pub struct Literal {
     pub value: u64,
 }
 
-// The greatest number of w bits, where w is at most 64.
+// The greatest number of w bits, where w is at most 64. (Else 0, of which the contract says nothing.)
 pub(crate) fn ones(w: u8) -> u64
     ensures { w ≤ 64 → result ≡ 2 ^ w - 1 }
 {
@@ -53,7 +53,7 @@ fn constant_fits(base: u8, t: &[u8], w: u8) -> bool
     n <= most_of(base, t, w)
 }
 
-// The value of a constant that fits, in two's complement after a minus sign.
+// The value of a constant that fits, in two's complement after a minus sign. (Else 0, of which the contract says nothing.)
 fn constant_value(base: u8, t: &[u8], w: u8) -> u64
     ensures { 0 < base → 1 ≤ w → w ≤ 64 → constant_fits base w t.now ≡ true → is_constant base t.now ≡ true → result ≡ constant_value w (constant_of base t.now) }
 {

@@ -60,7 +60,7 @@ pub fn is_in(class: Class, b: u8) -> bool
     }
 }
 
-/// The byte at a place, and 0 past the end.
+/// The byte at a place, and 0 past the end, as the definitions read there.
 // (Also in `problem`: neither crate knows the other, and it is one line.)
 pub fn byte_at(s: &[u8], p: usize) -> u8
     ensures { result ≡ get_or s.now p 0 }

@@ -7,7 +7,8 @@ use models::Judged;
 use problem::Refusal;
 use search::refusal_code;
 
-// Answered, before anything is done, where an array lent for the answer is too short: no refusal has this number.
+// Answered, before anything is done, where an array lent for the answer is too short. Of refusals only `Fault::Answers` has this number,
+// which says the same.
 pub(crate) const TOO_SHORT: u64 = 255;
 
 pub(crate) fn checked_code(answer: Result<(), Refusal>) -> u64

@@ -2,7 +2,7 @@
 ghost use Rattle.std.specs.Prelude.{◌≡◌, ℕ, ◌+◌, ◌*◌, ◌%◌, ◌^◌, ◌<◌, ◌≤◌};
 ghost use Rattle.words.specs.inner.Words.{Inverse, WordInverse};
 
-// a * b, modulo 2^64.
+// a * b, modulo 2^64, under the name by which the operators multiply.
 pub fn wrapping_mul(a: u64, b: u64) -> u64
     ensures { result ≡ a * b % 2 ^ 64 }
 {
@@ -13,8 +13,8 @@ pub fn wrapping_mul(a: u64, b: u64) -> u64
 fn newton(a: u64, x: u64) -> u64
     ensures { (k : ℕ) → 0 < k → k + k ≤ 64 → Inverse k a x → Inverse (k + k) a result }
 {
-    let y = a.wrapping_mul(x);
-    x.wrapping_mul(2u64.wrapping_sub(y))
+    let y = wrapping_mul(a, x);
+    wrapping_mul(x, 2u64.wrapping_sub(y))
 }
 
 // The word that an odd a is to be multiplied by to give 1, modulo 2^64: 1 is an inverse of a to one

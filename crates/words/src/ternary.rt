@@ -16,7 +16,7 @@ pub struct Ternary {
 }
 
 impl Ternary {
-    // The ternary word of any two words, where they make one.
+    // The ternary word of any two words, where they make one. (lo and hi apart: this is where they come together.)
     pub fn new(lo: u64, hi: u64) -> Option<Ternary>
         ensures found { IsSome result ↔ Within lo hi }
         ensures is { IfSome result (λ word. (word.lo ≡ lo) × (word.hi ≡ hi)) }

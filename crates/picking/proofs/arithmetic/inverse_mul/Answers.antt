@@ -14,4 +14,4 @@ overflow_sub-w-2 c =
 
 pub returns : goal.returns
 returns c =
-    mul_by c.requires.0 c.requires.1 c.low_bit-k.ensures c.odd_inverse.ensures refl c.cut.ensures (search rules) c.cut-2.ensures c.ending.ensures
+    mul_by c.requires.0 c.requires.1 c.low_bit-k.ensures c.odd_inverse.ensures c.wrapping_mul-x.ensures c.cut.ensures (search rules) c.cut-2.ensures c.ending.ensures
