@@ -11,18 +11,7 @@ use crate::layout::{
 };
 use operators::{KINDS, kind, rule_holds, shape_of};
 
-/// The refusal for a fault at a place, where it is given.
-pub fn refuse_if(given: bool, fault: Fault, place: u16) -> Result<(), Refusal>
-    ensures { result ≡ cond given (refusal (fault_number fault) place) Accepted }
-{
-    if given {
-        return Err(fault.at(place));
-    }
-    Ok(())
-}
-
-/// A line of the table, after what the lines before it gave: the first refusal stays. (Kept beside `refuse_if` and `?`: it promises the
-/// same of any number, and `line_determined` says so.)
+/// A line of the table, after what the lines before it gave: the first refusal stays.
 pub fn line(before: Result<(), Refusal>, number: u8, given: bool, place: u16) -> Result<(), Refusal>
     ensures { result ≡ (before then cond given (refusal number place) Accepted) }
 {
@@ -31,6 +20,14 @@ pub fn line(before: Result<(), Refusal>, number: u8, given: bool, place: u16) ->
         return Err(Refusal { number, place });
     }
     Ok(())
+}
+
+/// The refusal for a fault at a place, where it is given: a line of the table, where `?` has let nothing through that came before it.
+pub fn refuse_if(given: bool, fault: Fault, place: u16) -> Result<(), Refusal>
+    ensures { result ≡ cond given (refusal (fault_number fault) place) Accepted }
+{
+    let why = fault.at(place);
+    line(Ok(()), why.number, given, why.place)
 }
 
 /// The first refusal of test(0), .., test(count - 1).

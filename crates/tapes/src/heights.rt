@@ -8,6 +8,7 @@ ghost use Rattle.tapes.specs.inner.Heights.{Heights};
 use nodes::operand;
 use operators::operand_count;
 use problem::Problem;
+use words::later;
 
 // The height of node i: one link more than the greatest of its operands, 0 where it has none.
 #[tactic(auto, unfolding(nodes::specs::Problem::problem), using(crate::proofs::Links::above_none, crate::proofs::Links::above_more))]
@@ -20,7 +21,7 @@ fn height_at(problem: Problem, heights: &[u64; 1024], i: u16) -> u64
     let count = u32::from(operand_count(node.kind));
     let mut most = 0;
     for j in 0..count {
-        most = most.max(heights[usize::from(operand(node, j))] + 1);
+        most = later(most, heights[usize::from(operand(node, j))] + 1);
     }
     most
 }
@@ -45,7 +46,7 @@ pub(crate) fn longest_chain(problem: Problem, heights: &[u64; 1024]) -> u64
 {
     let mut most = 0;
     for j in 0..problem.root_count() {
-        most = most.max(heights[usize::from(problem.root(j))]);
+        most = later(most, heights[usize::from(problem.root(j))]);
     }
     most
 }

@@ -5,7 +5,7 @@ ghost use Rattle.words.specs.Pick.{FirstFrom, Picked, Between};
 
 use crate::ternary::{Ternary, first_agreeing};
 
-// The greater of two numbers, under the name by which docs/CONTRACTS.md promises it.
+// The greater of two numbers.
 pub fn later(a: u64, b: u64) -> u64
     ensures { result ≡ max a b }
 {
@@ -16,7 +16,7 @@ pub fn later(a: u64, b: u64) -> u64
 pub fn first_between(word: Ternary, least: u64, most: u64, p: u64) -> Option<u64>
     ensures { FirstFrom (Between (Agrees word.lo word.hi) least most) p result }
 {
-    let v = first_agreeing(word, least.max(p))?;
+    let v = first_agreeing(word, later(least, p))?;
     if v <= most { Some(v) } else { None }
 }
 
