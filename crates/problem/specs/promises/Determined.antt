@@ -1,10 +1,13 @@
 -- The contract of each public function determines its result: any two results that it allows are equal.
-use Rattle.std.specs.Prelude.{◌≡◌, Bool, cond, List, ℕ, ◌^◌, leb}
+use Rattle.std.specs.Prelude.{◌≡◌, Bool, cond, List, ℕ, ◌^◌, leb, Result, Ok, Err, IfOk, IfErr, MatchResult}
 use Rattle.std.proofs.Common.{sym, ◌∙◌}
 use Rattle.problem.specs.declared.layout.Node.{Node}
 use Rattle.problem.specs.declared.fault.Fault.{Fault}
+use Rattle.problem.specs.declared.Refusal.{Refusal}
+use Rattle.problem.specs.declared.accepted.Problem.{Problem}
 use Rattle.problem.specs.Faults.{fault_number}
 use Rattle.problem.specs.Layout.{le16, le32, le64, node_count, root_count, node_of, node_at, width_at, root_at}
+use Rattle.problem.specs.laws.First.{refused_not}
 use Rattle.problem.specs.Refusals.{Checked, Accepted, refusal, ◌then◌, operand_above, header_fault, node_fault, first_below, checked}
 
 -- where the contract is an equation
@@ -13,6 +16,22 @@ equal p q = p ∙ sym q
 
 pub check_determined : (problem : List ℕ) (r s : Checked) → r ≡ checked problem → s ≡ checked problem → r ≡ s
 check_determined problem r s = equal
+
+same_refusal : {a b : Refusal} → ◌≡◌ {A = Checked} (Err a) (Err b) → a ≡ b
+same_refusal h = cc
+
+-- of `Problem::parse`: two answers are views of the same bytes, or the same refusal
+pub parse_determined :
+    (problem : List ℕ) (r s : Result Problem Refusal)
+    → IfOk r (λ p. p.bytes.now ≡ problem)
+    → IfOk s (λ p. p.bytes.now ≡ problem)
+    → IfErr r (λ e. checked problem ≡ refusal e.number e.place)
+    → IfErr s (λ e. checked problem ≡ refusal e.number e.place)
+    → MatchResult r (λ p. MatchResult s (λ q. p.bytes.now ≡ q.bytes.now) (λ _. ⊥)) (λ e. MatchResult s (λ _. ⊥) (λ f. e ≡ f))
+parse_determined problem (Ok p) (Ok q) e f g h = e ∙ sym f
+parse_determined problem (Ok p) (Err b) e f g h = refused_not (sym h ∙ (rw e at p.accepted))
+parse_determined problem (Err a) (Ok q) e f g h = refused_not (sym g ∙ (rw f at q.accepted))
+parse_determined problem (Err a) (Err b) e f g h = same_refusal (sym g ∙ h)
 
 pub line_determined :
     (before : Checked) (number : ℕ) (given : Bool) (place : ℕ) (r s : Checked)
@@ -33,6 +52,9 @@ first_refusal_determined f count r s = equal
 
 pub number_determined : (f : Fault) (r s : ℕ) → r ≡ fault_number f → s ≡ fault_number f → r ≡ s
 number_determined f r s = equal
+
+pub at_determined : (f : Fault) (place : ℕ) (r s : Refusal) → r ≡ record { number = fault_number f; place = place } → s ≡ record { number = fault_number f; place = place } → r ≡ s
+at_determined f place r s = equal
 
 pub header_fault_determined : (problem : List ℕ) (r s : Checked) → r ≡ header_fault problem → s ≡ header_fault problem → r ≡ s
 header_fault_determined problem r s = equal

@@ -1,7 +1,9 @@
 -- The contract of each public function determines its result: any two results that it allows are equal.
-use Rattle.std.specs.Prelude.{◌≡◌, ℕ, ◌*◌, ◌%◌, ◌^◌, max, Bool, List, Option}
+use Rattle.std.specs.Prelude.{◌≡◌, refl, ℕ, ◌*◌, ◌%◌, ◌^◌, max, Bool, List, Option, Some, None, IsSome, IfSome, is_some, ◌↔◌}
 use Rattle.std.proofs.Common.{sym, ◌∙◌}
-use Rattle.words.specs.Agree.{Agrees}
+use Rattle.std.proofs.lemmas.Bool.{false≢true}
+use Rattle.words.specs.declared.ternary.Ternary.{Ternary}
+use Rattle.words.specs.Agree.{Within, Agrees}
 use Rattle.words.specs.inner.Decides.{Decides}
 use Rattle.words.specs.laws.Decides.{decides_unique}
 use Rattle.words.specs.inner.Marks.{Marked, with_mark, without_mark, Lowest}
@@ -40,6 +42,20 @@ pub lesser_of_determined : (a b r s : Option ℕ) → r ≡ lesser a b → s ≡
 lesser_of_determined a b r s = equal
 
 -- ---- ternary
+
+-- of `Ternary::new`: two answers are words alike, or both are none
+pub ternary_determined :
+    (lo hi : ℕ) (r s : Option Ternary)
+    → IsSome r ↔ Within lo hi
+    → IsSome s ↔ Within lo hi
+    → IfSome r (λ word. (word.lo ≡ lo) × (word.hi ≡ hi))
+    → IfSome s (λ word. (word.lo ≡ lo) × (word.hi ≡ hi))
+    → (is_some r ≡ is_some s) × IfSome r (λ a. IfSome s (λ b. (a.lo ≡ b.lo) × (a.hi ≡ b.hi)))
+ternary_determined lo hi None None p q e f = (refl, tt)
+ternary_determined lo hi (Some a) (Some b) p q e f = (refl, (e.0 ∙ sym f.0, e.1 ∙ sym f.1))
+ternary_determined lo hi None (Some b) p q e f = absurd (false≢true (p.1 (q.0 refl)))
+ternary_determined lo hi (Some a) None p q e f = absurd (false≢true (q.1 (p.0 refl)))
+
 pub agrees_determined : (v lo hi : ℕ) (r s : Bool) → Decides (Agrees lo hi v) r → Decides (Agrees lo hi v) s → r ≡ s
 agrees_determined v lo hi = decides_unique (Agrees lo hi v)
 
