@@ -9,7 +9,7 @@ ghost use Rattle.search.specs.Answers.{answer_words, told};
 ghost use Rattle.batches.specs.promises.Accepted.{Enough};
 
 use problem::{Fault, Problem, Refusal, check, node_count, refuse_if};
-use search::{Answer, Ready, outcome_code, run_one, verdict_code};
+use search::{Answer, Ready, outcome_code, prepare, run_one, verdict_code};
 
 /// The words of an answer.
 pub const ANSWER_WORDS: usize = 6;
@@ -107,7 +107,8 @@ pub fn run_starts(
     let mut his = [0u64; 1024];
     let mut slots = [0u16; 4096];
     let accepted = Problem { bytes: problem };
-    let ready = Ready::of(accepted, &mut los, &mut his, &mut slots);
+    let closed = prepare(accepted, &mut los, &mut his, &mut slots);
+    let ready = Ready::of(accepted, &los, &his, &slots, closed);
     let n = usize::from(accepted.node_count());
     let mut from: usize = 0;
     for k in 0..starts as usize {

@@ -154,7 +154,8 @@ fn run_in<const N: usize, const S: usize>(
     let mut los = [0u64; N];
     let mut his = [0u64; N];
     let mut slots = [0u16; S];
-    let ready = Ready::of(problem, &mut los, &mut his, &mut slots);
+    let closed = prepare(problem, &mut los, &mut his, &mut slots);
+    let ready = Ready::of(problem, &los, &his, &slots, closed);
     run_one(&ready, values, tape, budget)
 }
 

@@ -1,5 +1,4 @@
 // What a run needs of a problem.
-use crate::prepare;
 use nodes::Pairs;
 use problem::Problem;
 
@@ -15,23 +14,24 @@ pub struct Ready<'a> {
 
 impl<'a> Ready<'a> {
     ghost use Rattle.std.specs.Prelude.{◌≡◌};
-    ghost use Rattle.nodes.specs.inner.Nodes.{Fills};
-    ghost use Rattle.search.specs.inner.Run.{Unprepared, Readied};
+    ghost use Rattle.nodes.specs.inner.Nodes.{Filled};
 
-    /// A problem, and what `prepare` works out of it in room that is lent for it.
-    // (los and his are lent to be written, before `Pairs` holds them.)
+    /// A problem, and what `prepare` worked out of it, in one view.
+    // (A function, and no literal where they are worked out: there each is lent for a time of its own.)
     pub fn of(
         problem: Problem<'a>,
-        los: &'a mut [u64],
-        his: &'a mut [u64],
-        slots: &'a mut [u16],
+        los: &'a [u64],
+        his: &'a [u64],
+        slots: &'a [u16],
+        closed: bool,
     ) -> Ready<'a>
-        requires { Unprepared problem.bytes.now los.old his.old slots.old }
-        ensures ready { Readied result }
-        ensures fills { Fills problem.entry.bytes.now los.old his.old result.pairs.los.now result.pairs.his.now }
-        ensures problem { result.pairs.problem.bytes.now ≡ problem.entry.bytes.now }
+        requires { Filled problem.bytes.now los.now his.now }
+        ensures problem { result.pairs.problem ≡ problem.entry }
+        ensures los { result.pairs.los ≡ los.entry }
+        ensures his { result.pairs.his ≡ his.entry }
+        ensures slots { result.slots ≡ slots.entry }
+        ensures closed { result.closed ≡ closed }
     {
-        let closed = prepare(problem, los, his, slots);
         Ready {
             pairs: Pairs { problem, los, his },
             slots,

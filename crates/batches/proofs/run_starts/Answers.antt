@@ -6,8 +6,8 @@ use Rattle.batches.specs.laws.Batch.{made_none, stretch_there}
 use Rattle.batches.proofs.Many.{one_more, made_next}
 use Rattle.batches.proofs.run_starts.Goals as goal
 
-pub of-ready-requires : goal.of-ready-requires
-of-ready-requires c = unprepared 1024 (good_of _ c.requires.problem_good).few
+pub prepare-closed-requires : goal.prepare-closed-requires
+prepare-closed-requires c = unprepared 1024 (good_of _ c.requires.problem_good).few
 
 pub loop-k-init : goal.loop-k-init
 loop-k-init c = made_none c.requires

@@ -3,6 +3,6 @@ use Rattle.search.specs.laws.Room.{unprepared}
 use Rattle.nodes.specs.Problem.{problem}
 use Rattle.search.proofs.run_in.Goals as goal
 
-pub of-ready-requires : goal.of-ready-requires
+pub prepare-closed-requires : goal.prepare-closed-requires
 unfolding problem
-of-ready-requires g c = rw (← c.requires.slots) (unprepared g.row.N c.requires.room)
+prepare-closed-requires g c = rw (← c.requires.slots) (unprepared g.row.N c.requires.room)

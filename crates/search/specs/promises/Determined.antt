@@ -1,7 +1,9 @@
 -- What the definitions of a run allow is one result: runs and whole calls are each determined.
 use Rattle.std.specs.Prelude.{Err as Refused, ◌≡◌, refl, Bool, List, ℕ, ◌*◌, ◌<◌, get_or}
 use Rattle.std.proofs.Common.{sym, ap, ◌∙◌, arith}
+use Rattle.std.specs.Borrow.{Bor}
 use Rattle.words.specs.laws.Decides.{decides_unique}
+use Rattle.problem.specs.declared.Problem.{Problem}
 use Rattle.problem.specs.declared.Refusal.{Refusal}
 use Rattle.problem.specs.laws.First.{refused_not}
 use Rattle.search.specs.declared.Answer.{Answer}
@@ -128,7 +130,19 @@ pub prepare_determined :
 prepare_determined s los his los' his' slots' los'' his'' slots'' r r' p q =
     (fill_determined s los his los' his' los'' his'' p.1 q.1, decides_unique _ r r' p.0.decided q.0.decided, index_readers_determined s slots' slots'' p.0.indexed q.0.indexed)
 
--- of `Ready::of`, which shows what `prepare` left
+-- of `Ready::of`: a view shows what it was made of
+abbrev pub Shows : Problem → Bor (List ℕ) → Bor (List ℕ) → Bor (List ℕ) → Bool → Ready → Type 0
+Shows p los his slots fixed r = (r.pairs.problem ≡ p) × (r.pairs.los ≡ los) × (r.pairs.his ≡ his) × (r.slots ≡ slots) × (r.closed ≡ fixed)
+
+pub ready_of_determined :
+    (p : Problem) (los his slots : Bor (List ℕ)) (fixed : Bool) (r r' : Ready)
+    → Shows p los his slots fixed r
+    → Shows p los his slots fixed r'
+    → (r.pairs.problem ≡ r'.pairs.problem) × (r.pairs.los ≡ r'.pairs.los) × (r.pairs.his ≡ r'.pairs.his) × (r.slots ≡ r'.slots) × (r.closed ≡ r'.closed)
+ready_of_determined p los his slots fixed r r' c d =
+    (c.0 ∙ sym d.0, c.1 ∙ sym d.1, c.2 ∙ sym d.2, c.3 ∙ sym d.3, c.4 ∙ sym d.4)
+
+-- of a `Ready` that shows what `prepare` left
 pub ready_determined :
     (s los his : List ℕ) (r r' : Ready)
     → r.pairs.problem.bytes.now ≡ s
@@ -137,6 +151,10 @@ pub ready_determined :
     → Readied r' × Fills s los his r'.pairs.los.now r'.pairs.his.now
     → ((r.pairs.los.now ≡ r'.pairs.los.now) × (r.pairs.his.now ≡ r'.pairs.his.now)) × (r.closed ≡ r'.closed) × ((m : ℕ) (l l' : List ℕ) → m < (problem s).nodes → Chain r.slots.now (get_or r.slots.now (4 * m) 0) l → Chain r'.slots.now (get_or r'.slots.now (4 * m) 0) l' → l ≡ l')
 ready_determined s los his r r' e e' p q = prepare_determined s los his _ _ _ _ _ _ _ _ (rw e at p.0, p.1) (rw e' at q.0, q.1)
+
+-- of `Answer::from`
+pub answer_from_determined : (why : Refusal) (r s : Answer) → r ≡ refused why → s ≡ refused why → r ≡ s
+answer_from_determined why r s e f = e ∙ sym f
 
 -- of the codes of an answer
 pub verdict_code_determined : (o : Outcome) (r r' : ℕ) → r ≡ verdict_code o → r' ≡ verdict_code o → r ≡ r'
