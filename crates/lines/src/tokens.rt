@@ -74,16 +74,17 @@ pub fn mark_tokens(line: &[u8], marks: &mut [usize])
 
 /// A line with the places where its first 12 tokens begin and end, as `mark_tokens` stores them.
 // (A view of a lent line is never compared: so no `PartialEq`.)
+// (Two lifetimes: a token is of the text, and outlives the marks.)
 #[derive(Clone, Copy, Debug)]
-pub struct MarkedLine<'a> {
-    pub text: &'a [u8],
-    pub marks: &'a [usize],
+pub struct MarkedLine<'t, 'm> {
+    pub text: &'t [u8],
+    pub marks: &'m [usize],
     ghost marked: { Marked text.now 12 marks.now },
 }
 
-impl<'a> MarkedLine<'a> {
+impl<'t, 'm> MarkedLine<'t, 'm> {
     /// Token k, empty where there is none.
-    pub fn token_at(self, k: u8) -> &'a [u8]
+    pub fn token_at(self, k: u8) -> &'t [u8]
         requires { k < 12 }
         ensures { result.now ≡ token (tokens self.entry.text.now) k }
     {
