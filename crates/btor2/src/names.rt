@@ -81,7 +81,7 @@ fn node_of(earlier: Earlier, names: KeptNames, id: u64) -> Option<u16>
 // The operand that a reference names; one with node 1024 where it names none, as the definitions of a line's nodes have a number there.
 // (`Seen` is said of every state σ, here and in `read`: so it stands in the clauses, and no type can hold it.)
 pub(crate) fn operand_of(before: &Before, t: &[u8]) -> Operand
-    ensures { (σ : State) → Seen σ (take before.now.earlier.passed (lines before.now.earlier.text.now)) before.now.names.count before.now.bytes.now before.now.names.ids.now before.now.names.places.now → result ≡ looked_up σ (ref_of t.now) }
+    ensures { (σ : State) → Seen σ (take before.now.earlier.passed (lines before.now.earlier.text.now)) before.now.names.count before.now.bytes.now before.now.names.ids.now before.now.names.places.now → Rising before.now.names.ids.now before.now.names.count → result ≡ looked_up σ (ref_of t.now) }
 {
     let negative = is_signed(t);
     match node_of(before.earlier, before.names, small_of(unsigned_of(t))) {

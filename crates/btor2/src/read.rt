@@ -5,7 +5,7 @@ ghost use Rattle.lines.specs.Lines.{lines, tokens};
 ghost use Rattle.lines.specs.Format.{ref_of, sort_named};
 ghost use Rattle.btor2.specs.Conversion.{State};
 ghost use Rattle.lines.specs.inner.Told.{small};
-ghost use Rattle.btor2.specs.inner.Kept.{Seen, SortsKept};
+ghost use Rattle.btor2.specs.inner.Kept.{Rising, Seen, SortsKept};
 ghost use Rattle.spelling.specs.inner.Spelled.{short};
 ghost use Rattle.btor2.specs.inner.Read.{operand_if, Operated, Filled, Read};
 
@@ -41,7 +41,7 @@ fn sort_named(makes: Makes, t: &[u8]) -> u64
 // The operand that a reference names, where one is wanted, and else all 0, as the definition `operand_if` has it.
 #[tactic(auto, unfolding(crate::specs::inner::Read::operand_if))]
 fn operand_if(wanted: bool, before: &Before, t: &[u8]) -> Operand
-    ensures { (σ : State) → Seen σ (take before.now.earlier.passed (lines before.now.earlier.text.now)) before.now.names.count before.now.bytes.now before.now.names.ids.now before.now.names.places.now → result ≡ operand_if wanted σ (ref_of t.now) }
+    ensures { (σ : State) → Seen σ (take before.now.earlier.passed (lines before.now.earlier.text.now)) before.now.names.count before.now.bytes.now before.now.names.ids.now before.now.names.places.now → Rising before.now.names.ids.now before.now.names.count → result ≡ operand_if wanted σ (ref_of t.now) }
 {
     if wanted {
         return operand_of(before, t);
@@ -56,7 +56,7 @@ fn operand_if(wanted: bool, before: &Before, t: &[u8]) -> Operand
 // So many operands, whose references stand from a place on.
 fn operands_of(before: &Before, line: MarkedLine, place: u8, refs: u8) -> Operands
     requires { place ≤ 3 }
-    ensures { (σ : State) → Seen σ (take before.now.earlier.passed (lines before.now.earlier.text.now)) before.now.names.count before.now.bytes.now before.now.names.ids.now before.now.names.places.now → Operated σ (tokens line.entry.text.now) place refs result }
+    ensures { (σ : State) → Seen σ (take before.now.earlier.passed (lines before.now.earlier.text.now)) before.now.names.count before.now.bytes.now before.now.names.ids.now before.now.names.places.now → Rising before.now.names.ids.now before.now.names.count → Operated σ (tokens line.entry.text.now) place refs result }
 {
     let first = line.token_at(place);
     let a = operand_if(0 < refs, before, first);
@@ -90,7 +90,7 @@ fn filled_line(line: MarkedLine, word: u8, width: u8, ops: Operands, middle: u8)
 
 // A line whose tokens are marked.
 pub(crate) fn read_line(before: &Before, line: MarkedLine) -> Line
-    ensures { (σ : State) → Seen σ (take before.now.earlier.passed (lines before.now.earlier.text.now)) before.now.names.count before.now.bytes.now before.now.names.ids.now before.now.names.places.now → SortsKept σ before.now.sorts.now.count before.now.sorts.now.ids before.now.sorts.now.widths → Read σ (tokens line.entry.text.now) result }
+    ensures { (σ : State) → Seen σ (take before.now.earlier.passed (lines before.now.earlier.text.now)) before.now.names.count before.now.bytes.now before.now.names.ids.now before.now.names.places.now → Rising before.now.names.ids.now before.now.names.count → SortsKept σ before.now.sorts.now.count before.now.sorts.now.ids before.now.sorts.now.widths → Read σ (tokens line.entry.text.now) result }
 {
     let word = number_of(line.token_at(1));
     let makes = makes_of(word);

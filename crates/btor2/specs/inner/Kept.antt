@@ -63,7 +63,6 @@ pub record Seen (σ : State) (ls : List (List ℕ)) (names : ℕ) (bytes ids pla
   pub named : Named σ ls names ids places
   pub sorted : Sorted σ ls
   pub widths : (k : ℕ) → k < length σ.nodes → get_or bytes (24 * k + 1) 0 ≡ width_in σ.nodes k
-  pub rising : Rising ids names
 
 -- the node that an id names, and the operand that a reference names, with node 1024 where there is none
 unfoldable pub node_named : State → ℕ → Option ℕ

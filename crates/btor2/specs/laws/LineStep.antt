@@ -61,7 +61,6 @@ seen {room} {σ} {ls} {n} {bytes} K =
       named = K.named;
       sorted = S.sorted;
       widths = λ k h. sym (get_or-take (24 * n.nodes) bytes (24 * k + 1) 0 (let e = K.nodes_are in omega arith)) ∙ rw K.written (node_width σ.nodes k S.nodes_wide h);
-      rising = K.fits.rising;
     }
 
 -- ---- small laws

@@ -16,4 +16,4 @@ returns-in_err-format_fault c =
     λ σ K Q. rw e (step_format K _ _ c.token_at.ensures (eqb-false _ _ (sym c.is_empty.ensures ∙ c.if-is_empty.false)) _ c.format_fault.ensures c.in_err-format_fault.field-0.0 (sym (ap told c.in_err-format_fault.was)))
 
 pub returns : goal.returns
-returns c = λ σ K Q. step_settled K _ _ c.token_at.ensures (eqb-false _ _ (sym c.is_empty.ensures ∙ c.if-is_empty.false)) _ c.format_fault.ensures (ap told c.in_ok-format_fault.was) _ (c.read_line-x.ensures σ (seen K) Q) c.settle_line.ensures
+returns c = λ σ K Q. step_settled K _ _ c.token_at.ensures (eqb-false _ _ (sym c.is_empty.ensures ∙ c.if-is_empty.false)) _ c.format_fault.ensures (ap told c.in_ok-format_fault.was) _ (c.read_line-x.ensures σ (seen K) K.fits.rising Q) c.settle_line.ensures
