@@ -205,13 +205,15 @@ fn ended(text: &[u8], at: usize) -> bool
 }
 
 // Where the entries begin: after `(` and perhaps `model`.
+// (Each token from the end of the one before: what stands before the first, a long comment perhaps, is passed but once.)
 pub fn body_start(text: &[u8]) -> usize
     ensures { Begins text.now result }
 {
-    if same(token(text, 0, 1), b"model") {
-        return after(text, 0, 2);
+    let first = after(text, 0, 1);
+    if same(token(text, first, 0), b"model") {
+        return after(text, first, 1);
     }
-    after(text, 0, 1)
+    first
 }
 
 // Where they end.
