@@ -1,5 +1,5 @@
 // Whether numbers from outside are those of a node of an accepted problem, so that picking may be asked.
-ghost use Rattle.std.specs.Prelude.{◌≡◌, ◌≤◌, ◌↔◌, IsSome, IfSome};
+ghost use Rattle.std.specs.Prelude.{◌≡◌, ◌≤◌};
 ghost use Rattle.words.specs.inner.Decides.{Decides};
 ghost use Rattle.operators.specs.Table.{shape_of, rule_holds};
 ghost use Rattle.picking.specs.Spot.{at as standing, Asked, Slot};
@@ -9,7 +9,8 @@ ghost use Rattle.walumpeh.specs.Offered.{Short, Empty, Placed, Slots, Headed, Of
 use operators::{KINDS, Rule, Shape, kind, rule_holds, shape_of};
 use picking::{Spot, at};
 
-/// What picking may be asked: a node that an accepted problem has, one of its positions, and a target of its width.
+/// What picking may be asked: a node that an accepted problem has, one of its positions, and a target of its width. Made by
+/// the caller of `is_offered`, which alone tells: to hand one back in memory costs a call of the C interface a tenth and more.
 #[derive(Clone, Copy, Debug, PartialEq, Eq)]
 pub(crate) struct Question {
     pub spot: Spot,
@@ -121,28 +122,11 @@ fn shaped(s: &Spot, shape: Shape, i: u32, t: u64) -> bool
             & fits(t, u64::from(s.width))
 }
 
-// A spot that an accepted problem has, one of its positions, and a target of its width.
+/// Whether a spot is one that an accepted problem has, the position one of its positions, and the target of its width.
+/// (The spot by value: of a spot that it borrows, the caller would copy all for the pick.)
 #[tactic(auto, using(crate::proofs::Offers::offered_headed, words::specs::laws::Decides::decides_yes, words::specs::laws::Decides::decides_no))]
-fn is_offered(s: &Spot, i: u32, t: u64) -> bool
-    ensures { Decides (Offered s.now i t) result }
+pub(crate) fn is_offered(s: Spot, i: u32, t: u64) -> bool
+    ensures { Decides (Offered s i t) result }
 {
-    headed(s) && shaped(s, shape_of(s.kind), i, t)
-}
-
-/// The question, where it may be asked.
-#[tactic(auto, using(words::specs::laws::Decides::decides_yes, words::specs::laws::Decides::decides_no))]
-pub(crate) fn offered(spot: Spot, position: u32, target: u64) -> Option<Question>
-    ensures found { IsSome result ↔ Offered spot position target }
-    ensures spot { IfSome result (λ q. q.spot ≡ spot) }
-    ensures position { IfSome result (λ q. q.position ≡ position) }
-    ensures target { IfSome result (λ q. q.target ≡ target) }
-{
-    if !is_offered(&spot, position, target) {
-        return None;
-    }
-    Some(Question {
-        spot,
-        position,
-        target,
-    })
+    headed(&s) && shaped(&s, shape_of(s.kind), i, t)
 }

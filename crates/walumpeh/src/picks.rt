@@ -4,7 +4,7 @@ ghost use Rattle.words.specs.Pick.{Picked};
 ghost use Rattle.picking.specs.Spot.{at};
 ghost use Rattle.walumpeh.specs.Calls.{SetOf, three_from, spot_from, PickCode, EssentialCode};
 
-use crate::offered::{Question, offered};
+use crate::offered::{Question, is_offered};
 use picking::{Spot, Three};
 
 // The word at a place, and 0 past the end.
@@ -66,8 +66,14 @@ pub extern "C" fn wal_essential(
 ) -> u8
     ensures { EssentialCode (spot_from kind width low node.now) position target result }
 {
-    let Some(q) = offered(spot(kind, width, low, node), position, target) else {
+    let spot = spot(kind, width, low, node);
+    if !is_offered(spot, position, target) {
         return 2;
+    }
+    let q = Question {
+        spot,
+        position,
+        target,
     };
     u8::from(essentials::essential(q.spot, q.position, q.target))
 }
@@ -92,8 +98,14 @@ pub extern "C" fn wal_pick(
     if out.is_empty() {
         return 2;
     }
-    let Some(q) = offered(spot(kind, width, low, node), position, target) else {
+    let spot = spot(kind, width, low, node);
+    if !is_offered(spot, position, target) {
         return 2;
+    }
+    let q = Question {
+        spot,
+        position,
+        target,
     };
     let Some(v) = picked(&q, proposal, which) else {
         return 0;
