@@ -8,7 +8,7 @@ ghost use Rattle.batches.specs.Batch.{sum, tape_fault, room_fault, batch_refusal
 ghost use Rattle.search.specs.Answers.{answer_words, told};
 ghost use Rattle.batches.specs.promises.Accepted.{Enough};
 
-use problem::{Fault, Problem, Refusal, check, node_count, refuse_if};
+use problem::{Fault, Problem, Refusal, check, line, node_count, refuse_if};
 use search::{Answer, Ready, outcome_code, prepare, run_one, verdict_code};
 
 /// The words of an answer.
@@ -65,11 +65,10 @@ pub fn batch_refusal(
         Fault::Answers,
         0,
     )?;
-    check(problem)?;
     let uneven = (256 < starts)
         | (lengths.len() as u64 != starts)
         | (budgets.len() as u64 != starts);
-    refuse_if(uneven, Fault::Starts, 0)?;
+    line(check(problem), Fault::Starts.number(), uneven, 0)?;
     lent_short(problem, starts, values, tape, lengths)
 }
 
