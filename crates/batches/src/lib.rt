@@ -47,7 +47,8 @@ fn lent_short(
 }
 
 /// The first refusal of a whole call, or that there is none; nothing is run.
-// (Seven parameters: those of C's call, of which `batch_refusals` speaks one by one.)
+// (Seven parameters: those of C's call, of which `batch_refusals` speaks one by one. 17 is a line of the check's table, so that what the
+// check tells first stays first by `line`'s own promise.)
 #[tactic(auto, using(crate::proofs::Many::short_same), unfolding(crate::specs::Batch::batch_refusals, crate::specs::Batch::answers_fault, crate::specs::Batch::lists_fault, problem::specs::Refusals::first_of))]
 pub fn batch_refusal(
     problem: &[u8],

@@ -43,8 +43,9 @@ fn repeats(names: &[u16], solution: &[u64], kept: &[u64], held: usize) -> bool
     false
 }
 
-// The words of one slice in another of the same length.
-// (By number, and not by `copy_from_slice`: of two lists that are both lent that is a call of C's `memmove`, which the archive would ask of whoever links it.)
+// Copies the words of one list into another of the same length.
+// (By number, and not by `copy_from_slice`: of two lists that C lends, and of a length that is not known before, that becomes a call
+// of C's `memmove`, which the archive would then ask of whoever links it.)
 fn copy(from: &[u64], to: &mut [u64])
     requires { length from.now ≡ length to.old }
     ensures { to.new ≡ from.now }
